@@ -3,12 +3,12 @@ use Rattle.std.proofs.Common.{◌≡◌, ℕ, ◌<◌, Option, Some, List, optio
 use Rattle.rp_model.specs.World.{part_at, with_part}
 use Rattle.rp_actors.specs.Failures.{RisesAt}
 use Rattle.rp_actors.specs.Nodes.{failures_in}
-use Rattle.rp_actors.specs.declared.node.Node.{Node}
+use Rattle.rp_actors.specs.declared.node.ClusterNode.{ClusterNode}
 use Rattle.rp_actors.proofs.Fields.{Fields, counts_of}
 use Rattle.rp_actors.proofs.Lists.{get_map, set_map, set_same}
 use Rattle.rp_actors.proofs.Placing.{Found}
 
-module _ {S D P : Type 0} (f : Fields S D P) (at : Found f.nodes) (new : Node S D P) where
+module _ {S D P : Type 0} (f : Fields S D P) (at : Found f.nodes) (new : ClusterNode S D P) where
   abbrev before : List ℕ
   before = counts_of f f.nodes
 
@@ -16,7 +16,7 @@ module _ {S D P : Type 0} (f : Fields S D P) (at : Found f.nodes) (new : Node S 
   after = counts_of f (slice_set f.nodes at.place new)
 
   was_here : slice_get before at.place ≡ Some (failures_in f.disk at.it)
-  was_here = get_map (failures_in f.disk) f.nodes at.place ∙ ap (λ (o : Option (Node S D P)). option_map (failures_in f.disk) o) at.here
+  was_here = get_map (failures_in f.disk) f.nodes at.place ∙ ap (λ (o : Option (ClusterNode S D P)). option_map (failures_in f.disk) o) at.here
 
   -- its device has not failed
   pub same_counts : failures_in f.disk new ≡ failures_in f.disk at.it → after ≡ before

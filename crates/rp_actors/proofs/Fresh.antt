@@ -12,7 +12,7 @@ use Rattle.rp_actors.specs.Callers.{Caller}
 use Rattle.rp_replica.specs.rp_outbox.specs.Packets.{Sending}
 use Rattle.rp_actors.specs.Nodes.{member_of, Represents}
 use Rattle.rp_actors.specs.Shape.{part_by, world_of, AreFresh, AreFreshTasks, IsWorld}
-use Rattle.rp_actors.specs.declared.node.Node.{Node}
+use Rattle.rp_actors.specs.declared.node.ClusterNode.{ClusterNode}
 use Rattle.rp_actors.proofs.Resting.{part_is}
 
 -- what is so of all that are left is so of the first one, and of those after it
@@ -58,7 +58,7 @@ all_same : {A B : Type 0} (f : A → B) (b : B) (xs : List A) → ((k : ℕ) →
 all_same {A = A} {B = B} f b [] all = refl
 all_same {A = A} {B = B} f b (x ∷ xs) all = ap (λ (y : B). y ∷ map f xs) (all zero) ∙ ap (λ (l : List B). b ∷ l) (all_same f b xs (λ k. all (suc k)))
 
-module _ {S D P : Type 0} (disk : D → Disk) (config : Config) (begin : S) (nodes : List (Node S D P)) (tasks : List Caller) (messages : Sending)
+module _ {S D P : Type 0} (disk : D → Disk) (config : Config) (begin : S) (nodes : List (ClusterNode S D P)) (tasks : List Caller) (messages : Sending)
     (fresh : AreFresh disk config begin nodes) (fresh_tasks : AreFreshTasks tasks) (none : messages.sent ≡ []) where
   abbrev most : ℕ
   most = config.max_positions

@@ -12,7 +12,7 @@ use Rattle.rp_model.specs.Answers.{Describes}
 use Rattle.rp_model.specs.declared.effect.Effect.{Effect}
 use Rattle.rp_model.specs.Effect.{Done, cut_if, cut_part, goes_on_as}
 use Rattle.rp_model.specs.World.{World, Transition, part_at, with_part, node_done, node_done_if, written_by}
-use Rattle.rp_actors.specs.declared.node.Node.{Node}
+use Rattle.rp_actors.specs.declared.node.ClusterNode.{ClusterNode}
 use Rattle.rp_actors.specs.Callers.{Caller}
 use Rattle.rp_replica.specs.rp_outbox.specs.Packets.{Sending}
 use Rattle.rp_actors.specs.Failures.{RisesOnly}
@@ -32,7 +32,7 @@ at_if {A = A} P o x is holds = subst (λ (p : Option A). IfSome p P) is holds
 
 -- ---- the parts of nodes
 
-module _ {S D P : Type 0} (disk : D → Disk) (most : ℕ) (nodes : List (Node S D P)) where
+module _ {S D P : Type 0} (disk : D → Disk) (most : ℕ) (nodes : List (ClusterNode S D P)) where
   abbrev parts : List NodePart
   parts = map (part_by disk most) nodes
 
@@ -48,7 +48,7 @@ module _ {S D P : Type 0} (disk : D → Disk) (most : ℕ) (nodes : List (Node S
       (get_map (part_by disk most) nodes at.place ∙ ap (option_map (part_by disk most)) at.here)
 
 -- it represents that
-pub represents_here : {S D P : Type 0} {disk : D → Disk} {config : Config} {begin : S} {nodes : List (Node S D P)} {tasks : List Caller} → IsWorld disk config begin nodes tasks
+pub represents_here : {S D P : Type 0} {disk : D → Disk} {config : Config} {begin : S} {nodes : List (ClusterNode S D P)} {tasks : List Caller} → IsWorld disk config begin nodes tasks
     → (at : Found nodes) → Represents disk (member_of at.me config begin) at.it (part_by disk config.max_positions at.it)
 represents_here {disk = disk} {config = config} {begin = begin} {nodes = nodes} is at =
     let part = part_by disk config.max_positions at.it in
@@ -73,7 +73,7 @@ module _ {S D P : Type 0} (f : Fields S D P) (at : Found f.nodes) where
   pub represents_now : Represents f.disk (member f at.me) at.it part
   represents_now = represents_here f.kept at
 
-  module _ (new : Node S D P) (after : NodePart) (represents : Represents f.disk (member f at.me) new after) where
+  module _ (new : ClusterNode S D P) (after : NodePart) (represents : Represents f.disk (member f at.me) new after) where
     -- its new part is in its place
     nodes_moved : map (part_by f.disk most) (slice_set f.nodes at.place new) ≡ with_part w.nodes at.me after
     nodes_moved =
@@ -94,7 +94,7 @@ module _ {S D P : Type 0} (f : Fields S D P) (at : Found f.nodes) where
     }
 
   -- a node that represents its part leaves the world as it was
-  pub nodes_stay : (new : Node S D P) → Represents f.disk (member f at.me) new part → map (part_by f.disk most) (slice_set f.nodes at.place new) ≡ w.nodes
+  pub nodes_stay : (new : ClusterNode S D P) → Represents f.disk (member f at.me) new part → map (part_by f.disk most) (slice_set f.nodes at.place new) ≡ w.nodes
   nodes_stay new represents =
       nodes_moved new part represents
       ∙ subst (λ (k : ℕ). with_part w.nodes k part ≡ w.nodes) at.placed
@@ -109,7 +109,7 @@ module _ {S D P : Type 0} (f : Fields S D P) (at : Found f.nodes) where
     pub node : m.node ≡ Some at.me
     pub writes : m.writes ≡ written_by (effect part)
 
-  module _ (new : Node S D P) (later : Sending) where
+  module _ (new : ClusterNode S D P) (later : Sending) where
     abbrev next : World
     next = world_with f (slice_set f.nodes at.place new) f.tasks later
 
@@ -176,7 +176,7 @@ module _ {S D P : Type 0} (f : Fields S D P) (at : Found f.nodes) where
           ]
 
   -- after a step that was not taken the node represents some part
-  pub represents_after : (effect : NodePart → Result (Done NodePart) Fault) (new : Node S D P) (fault : Fault) → NotTaken f.disk (member f at.me) at.it new effect fault
+  pub represents_after : (effect : NodePart → Result (Done NodePart) Fault) (new : ClusterNode S D P) (fault : Fault) → NotTaken f.disk (member f at.me) at.it new effect fault
       → (after : NodePart) × Represents f.disk (member f at.me) new after
   represents_after effect new fault not_taken =
       elim (not_taken part represents_now) [

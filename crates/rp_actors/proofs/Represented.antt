@@ -18,8 +18,8 @@ use Rattle.rp_replica.specs.State.{ReplicaState, part_of}
 use Rattle.rp_replica.specs.Opening.{Opens, IsRefusedOpening}
 use Rattle.rp_replica.specs.Kept.{HoldsPart, HoldsOnly, HoldsItsRecords}
 use Rattle.std.specs.Prelude.{IfOk, IfErr}
-use Rattle.rp_actors.specs.declared.node.Node.{Node}
-use Rattle.rp_actors.specs.declared.node.Node.TheVariants.{Running, Stopped}
+use Rattle.rp_actors.specs.declared.node.ClusterNode.{ClusterNode}
+use Rattle.rp_actors.specs.declared.node.ClusterNode.TheVariants.{Running, Stopped}
 use Rattle.rp_actors.specs.Nodes.{Member, RunsAs, RestsAs, RepresentsWhile, Represents, GoesBy, IsLeftTorn, IsNotStarted, DescribesOpened, failures_in, stored_length}
 
 -- ---- a replica that runs, or has failed
@@ -42,12 +42,12 @@ pub record NodeRuns (S D P : Type 0) : Type 0 where
   pub disk : D → Disk
   pub next : S → Action → S
   pub answers : S → Action → List Answer
-  pub node : Node S D P
+  pub node : ClusterNode S D P
   pub replica : ReplicaState S
   pub is : node ≡ Running replica
   pub working : replica.failed ≡ false
 
-abbrev pub node_runs : {S D P : Type 0} {node : Node S D P} {replica : ReplicaState S} {failed : Bool} (disk : D → Disk) (next : S → Action → S) (answers : S → Action → List Answer)
+abbrev pub node_runs : {S D P : Type 0} {node : ClusterNode S D P} {replica : ReplicaState S} {failed : Bool} (disk : D → Disk) (next : S → Action → S) (answers : S → Action → List Answer)
     → node ≡ Running replica → failed ≡ replica.failed → failed ≡ false → NodeRuns S D P
 node_runs {node = node} {replica = replica} disk next answers is failed_is works =
     record { disk = disk; next = next; answers = answers; node = node; replica = replica; is = is; working = sym failed_is ∙ works }
@@ -168,18 +168,18 @@ pub goes_on_running : {S : Type 0} (member : Member S) (replica : ReplicaState S
 goes_on_running member replica part runs = ap (restart_while part) (ap (λ (p : NodePart). p.running) runs.known)
 
 -- a node that rests on its device: one whose replica has failed, or that is stopped
-pub rests_failed : {S D P : Type 0} (disk : D → Disk) (member : Member S) {node : Node S D P} {replica : ReplicaState S} {failed : Bool} {device : Disk} → node ≡ Running replica → failed ≡ replica.failed → failed ≡ true → device ≡ replica.disk
+pub rests_failed : {S D P : Type 0} (disk : D → Disk) (member : Member S) {node : ClusterNode S D P} {replica : ReplicaState S} {failed : Bool} {device : Disk} → node ≡ Running replica → failed ≡ replica.failed → failed ≡ true → device ≡ replica.disk
     → (part : NodePart) → Represents disk member node part → RestsAs member.config.max_positions device part
 rests_failed disk member {replica = replica} is failed_is failed same part represents_it =
     subst (λ (d : Disk). RestsAs member.config.max_positions d part) (sym same)
     (as_resting member replica part (sym failed_is ∙ failed) (subst (λ n. Represents disk member n part) is represents_it))
 
-pub rests_stopped : {S D P : Type 0} (disk : D → Disk) (member : Member S) {node : Node S D P} {device : D} → node ≡ Stopped device
+pub rests_stopped : {S D P : Type 0} (disk : D → Disk) (member : Member S) {node : ClusterNode S D P} {device : D} → node ≡ Stopped device
     → (part : NodePart) → Represents disk member node part → RestsAs member.config.max_positions (disk device) part
 rests_stopped disk member is part represents_it = subst (λ n. Represents disk member n part) is represents_it
 
 -- a node that starts over the device that it rested on
-module _ {S D P : Type 0} (disk : D → Disk) (member : Member S) (old new : Node S D P) (device : Disk)
+module _ {S D P : Type 0} (disk : D → Disk) (member : Member S) (old new : ClusterNode S D P) (device : Disk)
     (as_often : device.failures ≡ failures_in disk old) (rests : (part : NodePart) → Represents disk member old part → RestsAs member.config.max_positions device part) where
   pub started : (answer : Result (Option (ℕ × ℕ)) Fault)
       → IfOk answer (λ opened. (part : NodePart) → RestsAs member.config.max_positions device part → Represents disk member new (restart_part part).part × DescribesOpened opened (restart_part part) × (failures_in disk new ≡ device.failures))

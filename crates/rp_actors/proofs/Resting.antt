@@ -27,8 +27,8 @@ use Rattle.rp_store.specs.Records.{records_text, AreTextsOf, AreRecordsOf}
 use Rattle.rp_store.proofs.Whole.{record_long, none_torn, whole_long}
 use Rattle.rp_model.specs.Parts.{NodePart, Running as Known, records_in_log}
 use Rattle.rp_replica.specs.State.{ReplicaState}
-use Rattle.rp_actors.specs.declared.node.Node.{Node}
-use Rattle.rp_actors.specs.declared.node.Node.TheVariants.{Running, Stopped}
+use Rattle.rp_actors.specs.declared.node.ClusterNode.{ClusterNode}
+use Rattle.rp_actors.specs.declared.node.ClusterNode.TheVariants.{Running, Stopped}
 use Rattle.rp_actors.specs.Nodes.{Member, RestsAs, RepresentsWhile, Represents}
 use Rattle.rp_actors.specs.Shape.{byte_front, with_others, records_read, records_on, resting_part, part_while, part_by}
 
@@ -195,6 +195,6 @@ while_is member replica part false runs = runs.known
 while_is member replica part true rests = resting_is member.config.max_positions replica.disk part rests
 
 -- and so is a node
-pub part_is : {S D P : Type 0} (disk : D → Disk) (member : Member S) (node : Node S D P) (part : NodePart) → Represents disk member node part → part ≡ part_by disk member.config.max_positions node
+pub part_is : {S D P : Type 0} (disk : D → Disk) (member : Member S) (node : ClusterNode S D P) (part : NodePart) → Represents disk member node part → part ≡ part_by disk member.config.max_positions node
 part_is disk member (Running replica) part is = while_is member replica part replica.failed is
 part_is disk member (Stopped device) part is = resting_is member.config.max_positions (disk device) part is

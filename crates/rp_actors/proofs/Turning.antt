@@ -28,8 +28,8 @@ use Rattle.rp_replica.specs.Turning.{AnswersOnto, TurnsIf, TurnsOnto, FailsAt, S
 use Rattle.rp_replica.specs.Cutting.{CutsIf, IsNotCutIf, cut_disk}
 use Rattle.rp_replica.specs.declared.cut.NotCut.{NotCut}
 use Rattle.rp_replica.specs.declared.cut.NotCut.TheVariants.{Failed as DeviceFailed, Refused}
-use Rattle.rp_actors.specs.declared.node.Node.{Node}
-use Rattle.rp_actors.specs.declared.node.Node.TheVariants.{Running, Stopped}
+use Rattle.rp_actors.specs.declared.node.ClusterNode.{ClusterNode}
+use Rattle.rp_actors.specs.declared.node.ClusterNode.TheVariants.{Running, Stopped}
 use Rattle.rp_actors.specs.Nodes.{Member, RunsAs, RestsAs, setting_at, node_step, IsNotRefused, RepresentsWhile, Represents, HasNotFailed, GoesBy, IsCutBy, NotTaken, DescribesSent, DescribesSending, failures_in}
 use Rattle.rp_actors.proofs.Represented.{NodeRuns, represents, represents_failed, runs_as}
 
@@ -148,7 +148,7 @@ module _ {S D P : Type 0} (r : NodeRuns S D P) (input : NodeInput) where
     runs = runs_as r member part is
 
     -- how the step was not taken, and left the node so
-    abbrev NotTakenHere : Node S D P → Fault → Type 0
+    abbrev NotTakenHere : ClusterNode S D P → Fault → Type 0
     NotTakenHere n fault =
         ((step member part ≡ Err fault) × Represents r.disk member n part × HasNotFailed r.disk member r.node n)
         ⊎ (((fault ≡ OutOfMemory) × IsNotRefused (step member part) × Represents r.disk member n part × HasNotFailed r.disk member r.node n)

@@ -18,8 +18,8 @@ use Rattle.rp_model.specs.declared.effect.Dropped.{Dropped}
 use Rattle.rp_model.specs.Effect.{Setting, Done, NodeInput, node_effect, cut_part}
 use Rattle.rp_replica.specs.State.{ReplicaState, part_of}
 use Rattle.rp_replica.specs.Kept.{HoldsPart, HoldsOnly, HoldsItsRecords}
-use Rattle.rp_actors.specs.declared.node.Node.{Node}
-use Rattle.rp_actors.specs.declared.node.Node.TheVariants.{Running, Stopped}
+use Rattle.rp_actors.specs.declared.node.ClusterNode.{ClusterNode}
+use Rattle.rp_actors.specs.declared.node.ClusterNode.TheVariants.{Running, Stopped}
 
 -- which node of which cluster
 pub record Member (S : Type 0) : Type 0 where
@@ -85,17 +85,17 @@ RepresentsWhile member replica part false = RunsAs member replica part
 RepresentsWhile member replica part true = RestsAs member.config.max_positions replica.disk part
 
 -- the node is the part of the member
-abbrev pub Represents : {S D P : Type 0} → (D → Disk) → Member S → Node S D P → NodePart → Type 0
+abbrev pub Represents : {S D P : Type 0} → (D → Disk) → Member S → ClusterNode S D P → NodePart → Type 0
 Represents disk member (Running replica) part = RepresentsWhile member replica part replica.failed
 Represents disk member (Stopped device) part =
     RestsAs member.config.max_positions (disk device) part
 
 -- how often the device of a node has failed
-abbrev pub failures_in : {S D P : Type 0} → (D → Disk) → Node S D P → ℕ
+abbrev pub failures_in : {S D P : Type 0} → (D → Disk) → ClusterNode S D P → ℕ
 failures_in disk (Running replica) = replica.disk.failures
 failures_in disk (Stopped device) = (disk device).failures
 
-module _ {S D P : Type 0} (disk : D → Disk) (member : Member S) (old new : Node S D P) where
+module _ {S D P : Type 0} (disk : D → Disk) (member : Member S) (old new : ClusterNode S D P) where
   -- the device of the node has not failed
   abbrev pub HasNotFailed : Type 0
   HasNotFailed = failures_in disk new ≡ failures_in disk old
@@ -151,7 +151,7 @@ IsNotStarted old new fault =
     ((fault ≡ OutOfMemory) × (new ≡ old)) ⊎ ((fault ≡ Device) × (old < new))
 
 -- the node is stopped
-abbrev pub IsResting : {S D P : Type 0} → (D → Disk) → Member S → Node S D P → Type 0
+abbrev pub IsResting : {S D P : Type 0} → (D → Disk) → Member S → ClusterNode S D P → Type 0
 IsResting disk member node =
     (part : NodePart) → Represents disk member node part → part.running ≡ None
 

@@ -17,8 +17,8 @@ use Rattle.rp_replica.specs.State.{ReplicaState, part_of}
 use Rattle.rp_actors.specs.Callers.{Caller}
 use Rattle.rp_replica.specs.rp_outbox.specs.Packets.{Sending}
 use Rattle.rp_actors.specs.Nodes.{member_of, Represents}
-use Rattle.rp_actors.specs.declared.node.Node.{Node}
-use Rattle.rp_actors.specs.declared.node.Node.TheVariants.{Running, Stopped}
+use Rattle.rp_actors.specs.declared.node.ClusterNode.{ClusterNode}
+use Rattle.rp_actors.specs.declared.node.ClusterNode.TheVariants.{Running, Stopped}
 
 -- ---- what a device holds of a node that rests
 
@@ -57,18 +57,18 @@ part_while most replica true = resting_part most replica.disk
 
 module _ {S D P : Type 0} (disk : D → Disk) (most : ℕ) where
   -- the part of a node: what its replica knows while it runs, else what its device holds
-  abbrev pub part_by : Node S D P → NodePart
+  abbrev pub part_by : ClusterNode S D P → NodePart
   part_by (Running replica) = part_while most replica replica.failed
   part_by (Stopped device) = resting_part most (disk device)
 
   -- the parts of the nodes and of the tasks, and what was sent
-  abbrev pub world_of : List (Node S D P) → List Caller → Sending → World
+  abbrev pub world_of : List (ClusterNode S D P) → List Caller → Sending → World
   world_of nodes tasks messages =
       record { nodes = map part_by nodes; tasks = map (λ t. t.part) tasks; sent = messages.sent }
 
 -- Each node is one of this cluster, in order, and each of the eight tasks is the one of its number.
 pub record IsWorld {S D P : Type 0} (disk : D → Disk) (config : Config) (begin : S)
-    (nodes : List (Node S D P))
+    (nodes : List (ClusterNode S D P))
     (tasks : List Caller) : Type 0 where
   pub right : IsRightConfig config
   pub size : length nodes ≡ config.nodes
@@ -81,7 +81,7 @@ pub record IsWorld {S D P : Type 0} (disk : D → Disk) (config : Config) (begin
 
 -- each node is a fresh one of this cluster, and there are as many as nodes
 pub record AreFresh {S D P : Type 0} (disk : D → Disk) (config : Config) (begin : S)
-    (nodes : List (Node S D P))
+    (nodes : List (ClusterNode S D P))
     : Type 0 where
   pub size : length nodes ≡ config.nodes
   pub each : (place : ℕ)

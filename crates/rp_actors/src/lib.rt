@@ -11,5 +11,5 @@ mod node;
 mod task;
 
 pub use calls::{asks, decode_reply};
-pub use node::{Node, are_empty};
+pub use node::{ClusterNode, are_empty};
 pub use task::Task;

@@ -22,12 +22,12 @@ use std::alloc::Global;
 
 /// What a node is between its steps.
 #[derive(Drop)]
-pub enum Node<M: Machine, D: CutDevice> {
+pub enum ClusterNode<M: Machine, D: CutDevice> {
     Running(Replica<M, D>),
     Stopped(D),
 }
 
-impl<M: Machine, D: CutDevice> Node<M, D> {
+impl<M: Machine, D: CutDevice> ClusterNode<M, D> {
     /// A node over an empty device. `OutOfMemory`, or `Device` where the device failed.
     pub fn open(
         alloc: Global,
@@ -48,7 +48,7 @@ impl<M: Machine, D: CutDevice> Node<M, D> {
         ensures cause { IsErrOf result faults.Device → SomeHasFailed D.disk }
     {
         match Replica::open(alloc, me, config, program, device) {
-            Ok(opening) => Ok(Node::Running(opening.replica)),
+            Ok(opening) => Ok(ClusterNode::Running(opening.replica)),
             Err((fault, _)) => Err(fault),
         }
     }
@@ -61,8 +61,8 @@ impl<M: Machine, D: CutDevice> Node<M, D> {
             → Represents D.disk member self.now part → part.running ≡ None }
     {
         match self {
-            Node::Running(replica) => !replica.has_failed(),
-            Node::Stopped(_) => false,
+            ClusterNode::Running(replica) => !replica.has_failed(),
+            ClusterNode::Stopped(_) => false,
         }
     }
 
@@ -74,14 +74,14 @@ impl<M: Machine, D: CutDevice> Node<M, D> {
             → Represents D.disk member self.now part → part.running ≡ None) }
     {
         match self {
-            Node::Running(replica) => {
+            ClusterNode::Running(replica) => {
                 if replica.has_failed() {
                     None
                 } else {
                     Some(replica)
                 }
             }
-            Node::Stopped(_) => None,
+            ClusterNode::Stopped(_) => None,
         }
     }
 
@@ -91,8 +91,8 @@ impl<M: Machine, D: CutDevice> Node<M, D> {
             → result ≡ stored_length part }
     {
         match self {
-            Node::Running(replica) => replica.stored(),
-            Node::Stopped(device) => device.len(),
+            ClusterNode::Running(replica) => replica.stored(),
+            ClusterNode::Stopped(device) => device.len(),
         }
     }
 
@@ -104,13 +104,13 @@ impl<M: Machine, D: CutDevice> Node<M, D> {
             self result.0 stop_effect fault) }
     {
         match self {
-            Node::Running(replica) => {
+            ClusterNode::Running(replica) => {
                 if replica.has_failed() {
-                    return (Node::Running(replica), Err(Fault::NotRunning));
+                    return (ClusterNode::Running(replica), Err(Fault::NotRunning));
                 }
-                (Node::Stopped(replica.close()), Ok(()))
+                (ClusterNode::Stopped(replica.close()), Ok(()))
             }
-            Node::Stopped(device) => (Node::Stopped(device), Err(Fault::NotRunning)),
+            ClusterNode::Stopped(device) => (ClusterNode::Stopped(device), Err(Fault::NotRunning)),
         }
     }
 
@@ -137,13 +137,13 @@ impl<M: Machine, D: CutDevice> Node<M, D> {
             (failures_in D.disk result.0)) }
     {
         match self {
-            Node::Running(replica) => {
+            ClusterNode::Running(replica) => {
                 if replica.has_failed() {
                     return starts(alloc, me, config, program, replica.close());
                 }
-                (Node::Running(replica), Ok(None))
+                (ClusterNode::Running(replica), Ok(None))
             }
-            Node::Stopped(device) => starts(alloc, me, config, program, device),
+            ClusterNode::Stopped(device) => starts(alloc, me, config, program, device),
         }
     }
 
@@ -172,13 +172,13 @@ impl<M: Machine, D: CutDevice> Node<M, D> {
             → IsOk result }
     {
         match self {
-            Node::Running(replica) => {
+            ClusterNode::Running(replica) => {
                 if replica.has_failed() {
                     return Err(Fault::NotRunning);
                 }
                 replica.turn_into(alloc, messages, input)
             }
-            Node::Stopped(_) => Err(Fault::NotRunning),
+            ClusterNode::Stopped(_) => Err(Fault::NotRunning),
         }
     }
 
@@ -206,13 +206,13 @@ impl<M: Machine, D: CutDevice> Node<M, D> {
             → IsOk result }
     {
         match self {
-            Node::Running(replica) => {
+            ClusterNode::Running(replica) => {
                 if replica.has_failed() {
                     return Err(Fault::NotRunning);
                 }
                 replica.deliver(alloc, messages, place)
             }
-            Node::Stopped(_) => Err(Fault::NotRunning),
+            ClusterNode::Stopped(_) => Err(Fault::NotRunning),
         }
     }
 
@@ -229,29 +229,35 @@ impl<M: Machine, D: CutDevice> Node<M, D> {
             (node_step M.next M.answers member given) fault) }
     {
         match self {
-            Node::Running(replica) => {
+            ClusterNode::Running(replica) => {
                 if replica.has_failed() {
-                    return (Node::Running(replica), Err(Fault::NotRunning));
+                    return (ClusterNode::Running(replica), Err(Fault::NotRunning));
                 }
                 match replica.torn(alloc, input, kept) {
-                    Ok(device) => (Node::Stopped(device), Ok(())),
-                    Err(NotCut::Failed(device)) => (Node::Stopped(device), Err(Fault::Device)),
-                    Err(NotCut::Refused(fault, replica)) => (Node::Running(replica), Err(fault)),
+                    Ok(device) => (ClusterNode::Stopped(device), Ok(())),
+                    Err(NotCut::Failed(device)) => (
+                        ClusterNode::Stopped(device),
+                        Err(Fault::Device),
+                    ),
+                    Err(NotCut::Refused(fault, replica)) => (
+                        ClusterNode::Running(replica),
+                        Err(fault),
+                    ),
                 }
             }
-            Node::Stopped(device) => (Node::Stopped(device), Err(Fault::NotRunning)),
+            ClusterNode::Stopped(device) => (ClusterNode::Stopped(device), Err(Fault::NotRunning)),
         }
     }
 }
 
-impl<M: Machine, D: CutDevice + InfallibleDevice> Node<M, D> {
+impl<M: Machine, D: CutDevice + InfallibleDevice> ClusterNode<M, D> {
     /// The node's device has not failed, where such a device never does.
     pub fn never_failed(&self)
         ensures { failures_in D.disk self.now ≡ 0 }
     {
         match self {
-            Node::Running(replica) => replica.never_failed(),
-            Node::Stopped(_) => {}
+            ClusterNode::Running(replica) => replica.never_failed(),
+            ClusterNode::Stopped(_) => {}
         }
     }
 }
@@ -270,7 +276,7 @@ fn starts<M: Machine, D: CutDevice>(
     config: Config,
     program: &M::Program,
     device: D,
-) -> (Node<M, D>, Result<Option<(u64, u64)>, Fault>)
+) -> (ClusterNode<M, D>, Result<Option<(u64, u64)>, Fault>)
     requires config { IsRightConfig config }
     requires member { me ≤ config.nodes }
     ensures ok { IfOk result.1 (λ opened. (part : NodePart)
@@ -287,9 +293,9 @@ fn starts<M: Machine, D: CutDevice>(
 {
     match Replica::open(alloc, me, config, program, device) {
         Ok(opening) => (
-            Node::Running(opening.replica),
+            ClusterNode::Running(opening.replica),
             Ok(Some((opening.records, opening.cut_bytes))),
         ),
-        Err((fault, device)) => (Node::Stopped(device), Err(fault)),
+        Err((fault, device)) => (ClusterNode::Stopped(device), Err(fault)),
     }
 }

@@ -24,7 +24,7 @@ use Rattle.rp_agreement.specs.Answered.{SaysAnswer, answers_of}
 use Rattle.rp_agreement.proofs.Lists.{some_same, found_has}
 use Rattle.rp_model.specs.Effect.{Setting, NodeInput, running_effect}
 use Rattle.rp_model.specs.Learner.{missing_position, asks_for, missing_in_window, asks_for_each}
-use Rattle.rp_model.specs.Node.{RunningNode, running_node, kept_by, given_by}
+use Rattle.rp_model.specs.Node.{RunningNode, running_node, counted_by, given_by}
 use Rattle.rp_model.specs.Parts.{Running, Turn, with_record}
 use Rattle.rp_model.specs.Pending.{is_answered_by, replies_to}
 use Rattle.rp_model.specs.Plans.{once_learned, report_of, turn_of}
@@ -121,7 +121,7 @@ module _ {S : Type 0} (s : Setting S) where
     plan_answers (plans.Refuse to i b bound) saw = one_answer _ (says me (bodies.Nack i b bound) to) tt
     plan_answers (plans.Inform to i v) saw = one_answer _ (says me (bodies.Decided i v) to) tt
     plan_answers (plans.Answer task number reply) saw =
-        one_answer _ (says_to_task me (bodies.Reply number reply) task) (kept_is_given task number (kept_by here) (given_by here) reply saw.kept)
+        one_answer _ (says_to_task me (bodies.Reply number reply) task) (kept_is_given task number (counted_by here) (given_by here) reply saw.kept)
     plan_answers (plans.Lead i b own) saw = says_all _ me (bodies.Prepare i b) (one_to s.config.nodes) (λ k. tt)
     plan_answers (plans.LeadRange range b) saw = says_all _ me (bodies.PrepareRange range b) (one_to s.config.nodes) (λ k. tt)
     plan_answers (plans.OfferPrepared i b v) saw = says_all _ me (bodies.Accept i b v) (one_to s.config.nodes) (λ k. tt)

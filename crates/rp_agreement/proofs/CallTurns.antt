@@ -20,7 +20,7 @@ use Rattle.rp_agreement.specs.Over.{IsOver, IsCallTaken}
 use Rattle.rp_agreement.proofs.AnswerAgain.{call_is}
 use Rattle.rp_agreement.proofs.Lists.{found_has}
 use Rattle.rp_model.specs.Effect.{Setting, Receive, Interrupt, Tick, running_effect}
-use Rattle.rp_model.specs.Node.{RunningNode, running_node, kept_by, given_by}
+use Rattle.rp_model.specs.Node.{RunningNode, running_node, counted_by, given_by}
 use Rattle.rp_model.specs.Parts.{Running, Turn}
 use Rattle.rp_model.specs.Pending.{most_pending, is_same_call}
 use Rattle.rp_model.specs.Plans.{turn_of}
@@ -95,26 +95,26 @@ module _ (task number object : ℕ) (operation : Operation) (arg : ℤ) where
         not_below : (a n : ℕ) → n ≤ a → nat_lt a n ≡ false
         not_below a n past = lt-leb (suc a) n (omega (arith, past))
 
-    numbered : (reply : Option Reply) → kept_reply task number (kept_by here) (given_by here) ≡ reply → IsOver (kept_by here) (given_by here) [] call ⊎ TakenBy (on_numbered here task number call reply)
+    numbered : (reply : Option Reply) → kept_reply task number (counted_by here) (given_by here) ≡ reply → IsOver (counted_by here) (given_by here) [] call ⊎ TakenBy (on_numbered here task number call reply)
     numbered (Some reply) is =
-        let found = reply_given task number (kept_by here) (given_by here) reply is in
+        let found = reply_given task number (counted_by here) (given_by here) reply is in
         let first = found_has (is_for task number) found.0 (given_by here) found.1 in
         inl (inl (found.0, first.0, call_is task number found.0 first.1))
     numbered None is =
-        elim (cases_Bool (nat_lt number (last_number task (kept_by here)))) [
-          | inl below ↦ inl (inr (ltb-true number (last_number task (kept_by here)) below))
-          | inr above ↦ inr (subst TakenBy (sym (cond-false (nat_lt number (last_number task (kept_by here))) (plans.Pass No) (adds_pending running.pending call) above)) added)
+        elim (cases_Bool (nat_lt number (last_number task (counted_by here)))) [
+          | inl below ↦ inl (inr (ltb-true number (last_number task (counted_by here)) below))
+          | inr above ↦ inr (subst TakenBy (sym (cond-false (nat_lt number (last_number task (counted_by here))) (plans.Pass No) (adds_pending running.pending call) above)) added)
         ]
 
     ok_same : (a b : Turn) → (let one : Result Turn Fault = Ok a in one) ≡ Ok b → a ≡ b
     ok_same a b e = cc
 
-    pub call_taken : (turn : Turn) → running_effect s me records running (Receive (asks task me call)) ≡ Ok turn → IsOver (kept_by here) (given_by here) [] call ⊎ Taken turn
+    pub call_taken : (turn : Turn) → running_effect s me records running (Receive (asks task me call)) ≡ Ok turn → IsOver (counted_by here) (given_by here) [] call ⊎ Taken turn
     call_taken turn result =
         let mine : is_for_node s.config me (asks task me call) ≡ true = and_from _ _ (and_from _ _ (eq-eqb me me refl) refl) refl in
         let is : turn_of here (on_call here call) ≡ turn =
         ap (turn_of here) (sym (cond-true (is_for_node s.config me (asks task me call)) (on_call here call) (plans.Pass Foreign) mine)) ∙ ok_same _ turn result in
-        elim (numbered (kept_reply task number (kept_by here) (given_by here)) refl) [
+        elim (numbered (kept_reply task number (counted_by here) (given_by here)) refl) [
           | inl over ↦ inl over
           | inr taken ↦ inr (subst Taken is taken)
         ]

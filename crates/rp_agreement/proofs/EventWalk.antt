@@ -93,7 +93,7 @@ abbrev pub HoldsAfter : (World → Type 0) → Result Transition Fault → Type 
 HoldsAfter P (Ok transition) = P transition.world
 HoldsAfter P (Err fault) = Unit {0}
 
-module _ {S : Type 0} (s : Setting S) (may : NodeInput → Type 0) (asked : ℕ → TaskInput → Type 0) (P : World → Type 0) (kept_by : IsKeptByAll s may asked P) where
+module _ {S : Type 0} (s : Setting S) (may : NodeInput → Type 0) (asked : ℕ → TaskInput → Type 0) (P : World → Type 0) (counted_by : IsKeptByAll s may asked P) where
   node_if : (w : World) (me : ℕ) (result : Result (Done NodePart) Fault) → ((done : Done NodePart) → result ≡ Ok done → P (node_done w me done).world)
       → HoldsAfter P (node_done_if w me result)
   node_if w me (Ok done) fact = fact done refl
@@ -109,7 +109,7 @@ module _ {S : Type 0} (s : Setting S) (may : NodeInput → Type 0) (asked : ℕ 
   task_takes_keep : (w : World) (t : ℕ) (input : TaskInput) (part : Option TaskPart) → P w → IsTaskInput w.sent t input → TaskMay asked t input → part_at w.tasks t ≡ part
       → HoldsAfter P (task_takes s.config w t input part)
   task_takes_keep w t input None fact right comes here = tt
-  task_takes_keep w t input (Some part) fact right comes here = task_if w t (task_effect s.config t part input) (λ done is. kept_by.task w t part input done fact here right comes is)
+  task_takes_keep w t input (Some part) fact right comes here = task_if w t (task_effect s.config t part input) (λ done is. counted_by.task w t part input done fact here right comes is)
 
   -- the inputs of a step may come, and are right
   step_gives : (w : World) (step : Step) → IsRightStep step → StepMay may step → GivesOnly w (λ input. IsInput w.sent input × may input) step
@@ -133,26 +133,26 @@ module _ {S : Type 0} (s : Setting S) (may : NodeInput → Type 0) (asked : ℕ 
   step_keeps : (w : World) (step : Step) → P w → IsRightStep step → StepMay may step → HoldsAfter P (step_effect s w step)
   step_keeps w step fact is comes =
       by_chosen w (λ input. IsInput w.sent input × may input) (λ c. HoldsAfter P (chosen_effect s w c))
-      (λ me part input here given. node_if w me (node_effect s me part input) (λ done is. kept_by.input w me part input done fact here given.0 given.1 is))
+      (λ me part input here given. node_if w me (node_effect s me part input) (λ done is. counted_by.input w me part input done fact here given.0 given.1 is))
       (λ t part message here to. task_if w t (task_effect s.config t part (tasks.Take message))
-      (λ done is. kept_by.task w t part (tasks.Take message) done fact here (part_has w.sent to.number message to.sent, to.receiver) tt is)) (λ whom. fact) tt (λ me none. tt) step
+      (λ done is. counted_by.task w t part (tasks.Take message) done fact here (part_has w.sent to.number message to.sent, to.receiver) tt is)) (λ whom. fact) tt (λ me none. tt) step
       (step_gives w step is comes)
 
   cut_step_keeps : (w : World) (step : Step) (kept : ℕ) → P w → IsRightStep step → HoldsAfter P (cut_step s w step kept)
   cut_step_keeps w step kept fact is =
       by_chosen w (IsInput w.sent) (λ c. HoldsAfter P (chosen_cut s w kept c))
-      (λ me part input here given. node_if w me (cut_effect s me part input kept) (λ done is. kept_by.cut w me kept part input done fact here given is)) (λ t part message here to. tt) (λ whom. tt) tt
+      (λ me part input here given. node_if w me (cut_effect s me part input kept) (λ done is. counted_by.cut w me kept part input done fact here given is)) (λ t part message here to. tt) (λ whom. tt) tt
       (λ me none. tt) step (right_gives w step is)
 
   -- ---- events
 
   stops_keep : (w : World) (me : ℕ) (part : Option NodePart) → P w → part_at w.nodes me ≡ part → HoldsAfter P (stops w me part)
   stops_keep w me None fact here = tt
-  stops_keep w me (Some part) fact here = node_if w me (stop_effect part) (λ done is. kept_by.stop w me part done fact here is)
+  stops_keep w me (Some part) fact here = node_if w me (stop_effect part) (λ done is. counted_by.stop w me part done fact here is)
 
   restarts_keep : (w : World) (me : ℕ) (part : Option NodePart) → P w → part_at w.nodes me ≡ part → HoldsAfter P (restarts w me part)
   restarts_keep w me None fact here = tt
-  restarts_keep w me (Some part) fact here = kept_by.restart w me part fact here
+  restarts_keep w me (Some part) fact here = counted_by.restart w me part fact here
 
   pub event_keeps : (w : World) (event : Event) → P w → IsRightEvent event → EventMay may asked event → HoldsAfter P (event_effect s w event)
   event_keeps w (Submit t node object operation arg) fact is comes = task_takes_keep w t (tasks.Submit node object operation arg) (part_at w.tasks t) fact (is.1, is.4) comes refl
@@ -166,7 +166,7 @@ module _ {S : Type 0} (s : Setting S) (may : NodeInput → Type 0) (asked : ℕ 
 
   torn_keeps : (w : World) (me kept : ℕ) (part : Option NodePart) → P w → part_at w.nodes me ≡ part → P (untorn kept w me part)
   torn_keeps w me kept None fact here = fact
-  torn_keeps w me kept (Some part) fact here = kept_by.torn w me kept part fact here
+  torn_keeps w me kept (Some part) fact here = counted_by.torn w me kept part fact here
 
   same_keeps : (w left : World) → P w → left ≡ w → P left
   same_keeps w left fact same = subst P (sym same) fact

@@ -10,7 +10,7 @@ use Rattle.rp_base.specs.Sets.{Has}
 use Rattle.rp_base.proofs.Members.{has_split, has_passing}
 use Rattle.rp_codec.specs.Message.{Message}
 use Rattle.rp_machine.specs.Calls.{CallName, calls_of}
-use Rattle.rp_machine.specs.Replay.{number_for, numbers_of, one_to, unmoved, kept_of}
+use Rattle.rp_machine.specs.Replay.{number_for, numbers_of, one_to, unmoved, counted_of}
 use Rattle.rp_machine.specs.Asked.{last_number}
 use Rattle.rp_machine.proofs.Calling.{made_number, one_to_bound}
 use Rattle.rp_machine.proofs.Numbering.{length-one_to, counted}
@@ -170,7 +170,7 @@ module _ {S : Type 0} (s : Setting S) (node : ℕ → NodePart) (task : ℕ → 
   order = order_of s.config.nodes sent
 
   abbrev counted_ones : List Action
-  counted_ones = kept_of s.next s.answers s.begin order
+  counted_ones = counted_of s.next s.answers s.begin order
 
   -- what counts was asked for
   counts_if_made : (action : Action) → Has action (calls_by t counted_ones) → Has action (kept.made t).0

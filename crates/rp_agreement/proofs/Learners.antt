@@ -14,7 +14,7 @@ use Rattle.rp_base.specs.Proposals.{without_proposal}
 use Rattle.rp_base.proofs.Members.{has_passing}
 use Rattle.rp_codec.specs.Message.{Message}
 use Rattle.rp_codec.specs.declared.packet.Body.TheVariants as bodies
-use Rattle.rp_machine.specs.Replay.{kept_of, replay_answers}
+use Rattle.rp_machine.specs.Replay.{counted_of, replay_answers}
 use Rattle.rp_agreement.specs.Sound.{IsRunning}
 use Rattle.rp_agreement.proofs.Turns.{IsSoundTurn, ArePlain, none_plain, one_plain, both_plain, mapped_plain, plain, runs_written}
 use Rattle.rp_agreement.proofs.Counting.{majority_decides}
@@ -87,7 +87,7 @@ module _ {S : Type 0} (next : S → Action → S) (answers : S → Action → Li
       let before = applied_of records in
       let after = applied_of more in
       let given = replay_answers next answers begin after in
-      let test = stays (kept_of next answers begin after) given (drop (length before) after) in
+      let test = stays (counted_of next answers begin after) given (drop (length before) after) in
       let replies = replies_to x running.pending (drop (length (replay_answers next answers begin before)) given) in
       plain nodes x records sent (learns next answers begin x records running i v packets following) decided
       (both_plain nodes x sent more (packets ++ replies) following

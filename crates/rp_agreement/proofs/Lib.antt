@@ -54,3 +54,4 @@ pub mod PendingTurns
 pub mod CallTurns
 pub mod NotedTurns
 pub mod NotedWorlds
+mod Placed

@@ -32,7 +32,7 @@ use Rattle.rp_agreement.proofs.Turns.{IsOffer}
 use Rattle.rp_model.specs.Effect.{Setting, NodeInput, Interrupt, Tick, running_effect}
 use Rattle.rp_model.specs.Leader.{unlearned_in, refused_running}
 use Rattle.rp_model.specs.Learner.{missing_position, asks_for}
-use Rattle.rp_model.specs.Node.{RunningNode, running_node, kept_by, own_for}
+use Rattle.rp_model.specs.Node.{RunningNode, running_node, counted_by, own_for}
 use Rattle.rp_model.specs.Parts.{Running, Turn}
 use Rattle.rp_model.specs.Pending.{replies_to}
 use Rattle.rp_model.specs.Plans.{once_counted, once_learned, report_of, turn_of}
@@ -172,7 +172,7 @@ module _ (P : Action → Type 0) where
     nothing m h = absurd h
 
     own_holds : (i : ℕ) → P (own_for here i)
-    own_holds i = own_is_so P (kept_by here) (without_proposal running.proposals i) running.pending noop is.pending
+    own_holds i = own_is_so P (counted_by here) (without_proposal running.proposals i) running.pending noop is.pending
 
     learned_turn : (i : ℕ) (v : Action) (packets following : List Message) → AreSilent packets → AreSilent following → HoldsInTurn (once_learned here i v packets following)
     learned_turn i v packets following before after =

@@ -10,7 +10,7 @@ use Rattle.rp_base.proofs.Members.{has_right, passes}
 use Rattle.rp_codec.specs.Message.{Message}
 use Rattle.rp_machine.specs.Calls.{CallName, calls_of}
 use Rattle.rp_machine.specs.Places.{IsPlace}
-use Rattle.rp_machine.specs.Replay.{counts, number_for, Replayed, unmoved, replay_from, replay_of, kept_of}
+use Rattle.rp_machine.specs.Replay.{counts, number_for, Replayed, unmoved, replay_from, replay_of, counted_of}
 use Rattle.rp_machine.proofs.Calling.{has_left}
 use Rattle.rp_machine.proofs.Replaying.{replay_from-append, goes_on_from}
 use Rattle.rp_model.specs.Parts.{TaskPart}
@@ -22,7 +22,7 @@ module _ {S : Type 0} (next : S → Action → S) (answers : S → Action → Li
   -- an action that counts is among those that counted
   counted_stays : (before : List Action) (action : Action) (further : List Action)
       → (let r = replay_of next answers begin before in counts r.kept r.given action) ≡ true
-      → Has action (kept_of next answers begin (before ++ action ∷ further))
+      → Has action (counted_of next answers begin (before ++ action ∷ further))
   counted_stays before action further counting =
       let r = replay_of next answers begin before in
       let onward = goes_on_from next answers (record { state = next r.state action; kept = r.kept ++ action ∷ []; given = r.given ++ answers r.state action }) further in
@@ -32,9 +32,9 @@ module _ {S : Type 0} (next : S → Action → S) (answers : S → Action → Li
       ∙ onward.kept in
       subst (λ (all : List Action). Has action all) (sym same) (has_left action (r.kept ++ action ∷ []) onward.further (has_right action r.kept (action ∷ []) (inl refl)))
 
-  pub place_kept : (order : List Action) (call : CallName) (place : ℕ) (at : IsPlace next answers begin order call place) → Has at.action (kept_of next answers begin order)
+  pub place_kept : (order : List Action) (call : CallName) (place : ℕ) (at : IsPlace next answers begin order call place) → Has at.action (counted_of next answers begin order)
   place_kept order call place at =
-      subst (λ (all : List Action). Has at.action (kept_of next answers begin all)) (sym at.occurs) (counted_stays at.before at.action at.following at.takes_effect)
+      subst (λ (all : List Action). Has at.action (counted_of next answers begin all)) (sym at.occurs) (counted_stays at.before at.action at.following at.takes_effect)
 
 -- the number of a call of the task
 its_number : (t n : ℕ) (action : Action) → calls_of action ≡ named t n ∷ [] → is_some (number_for t action) ≡ true

@@ -15,13 +15,13 @@ use Rattle.rp_base.specs.Sets.{Has}
 use Rattle.rp_base.proofs.Members.{has_right, has_passing, passes}
 use Rattle.rp_codec.specs.declared.packet.Body.{Body}
 use Rattle.rp_machine.specs.Asked.{last_occurrence}
-use Rattle.rp_machine.specs.Replay.{kept_of, replay_answers}
+use Rattle.rp_machine.specs.Replay.{counted_of, replay_answers}
 use Rattle.rp_agreement.specs.Over.{calls_in_body, brought_by, AreKept, IsTaken, IsOverOnce}
 use Rattle.rp_agreement.proofs.Lists.{some_same}
 use Rattle.rp_agreement.proofs.PendingOver.{not_over, so_stays}
 use Rattle.rp_model.specs.Effect.{Setting, NodeInput, Interrupt, Tick, running_effect}
 use Rattle.rp_model.specs.Leader.{refused_running}
-use Rattle.rp_model.specs.Node.{RunningNode, running_node, kept_by}
+use Rattle.rp_model.specs.Node.{RunningNode, running_node, counted_by}
 use Rattle.rp_model.specs.Parts.{Running, Turn}
 use Rattle.rp_model.specs.Pending.{most_pending, is_same_call, stays}
 use Rattle.rp_model.specs.Plans.{offered_running, promised_running, turn_of}
@@ -40,7 +40,7 @@ module _ {S : Type 0} (s : Setting S) (records : List Rec) (running : Running) (
   those i v =
       let before = applied_of records in
       let after = applied_of (records ++ Learned i v ∷ []) in
-      filter (stays (kept_of s.next s.answers s.begin after) (replay_answers s.next s.answers s.begin after) (drop (length before) after)) running.pending
+      filter (stays (counted_of s.next s.answers s.begin after) (replay_answers s.next s.answers s.begin after) (drop (length before) after)) running.pending
 
   abbrev Learns : Turn → Type 0
   Learns turn = (i : ℕ) × (v : Action) × (turn.written ≡ Some (Learned i v)) × (turn.running.pending ≡ those i v)
@@ -130,7 +130,7 @@ module _ {S : Type 0} (s : Setting S) (records : List Rec) (running : Running) (
       → (Has item turn.running.pending → Has item running.pending × (¬ IsOverOnce s records i v item)) × (Has item running.pending × (¬ IsOverOnce s records i v item) → Has item turn.running.pending)
   stay_exactly i v item is =
       let after = applied_of (records ++ Learned i v ∷ []) in
-      let kept = kept_of s.next s.answers s.begin after in
+      let kept = counted_of s.next s.answers s.begin after in
       let given = replay_answers s.next s.answers s.begin after in
       let newly = drop (length (applied_of records)) after in (
         λ h.
@@ -173,11 +173,11 @@ module _ {S : Type 0} (s : Setting S) (me : ℕ) (records : List Rec) (running :
       subst (λ (t : Turn). IsTaken running t (actions.Tick now)) (ok_same _ turn result) (adds_taken node (actions.Tick now) (λ other. refl))
 
   pub interrupt_taken : (source occurrence : ℕ) → running_effect s me records running (Interrupt source occurrence) ≡ Ok turn
-      → (occurrence ≤ last_occurrence source (kept_of s.next s.answers s.begin (applied_of records))) ⊎ IsTaken running turn (actions.Interrupt source occurrence)
+      → (occurrence ≤ last_occurrence source (counted_of s.next s.answers s.begin (applied_of records))) ⊎ IsTaken running turn (actions.Interrupt source occurrence)
   interrupt_taken source occurrence result =
       let node = running_node s me records running in
       let item = actions.Interrupt source occurrence in
-      let kept = kept_by node in
+      let kept = counted_by node in
       elim (cases_lt (last_occurrence source kept) occurrence) [
         | inl above ↦
             let is : turn_of node (adds_pending running.pending item) ≡ turn =

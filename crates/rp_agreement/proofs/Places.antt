@@ -13,7 +13,7 @@ use Rattle.rp_base.specs.Action.{IsRight}
 use Rattle.rp_base.specs.Sets.{Has}
 use Rattle.rp_base.proofs.Members.{has_split, has_left, has_mapped, mapped_has}
 use Rattle.rp_machine.specs.Calls.{CallName, calls_of, calls_made, call_of}
-use Rattle.rp_machine.specs.Replay.{number_for, one_to, is_for, numbers_of, is_next_number, is_answered, all_answered, counts, Replayed, unmoved, replay_step, replay_from, kept_of}
+use Rattle.rp_machine.specs.Replay.{number_for, one_to, is_for, numbers_of, is_next_number, is_answered, all_answered, counts, Replayed, unmoved, replay_step, replay_from, counted_of}
 use Rattle.rp_machine.specs.Asked.{last_number}
 use Rattle.rp_machine.proofs.Calling.{made_number, one_to_bound}
 use Rattle.rp_machine.proofs.Numbering.{IsCounted, counted}
@@ -131,7 +131,7 @@ module _ {S : Type 0} (s : Setting S) where
         | inl before ↦ elim (kept_if r x other before) [ inl old ↦ inl old | inr same ↦ inr (inl same) ]
       ]
 
-  kept_occurs : (xs : List Action) (call : CallName) → Occurs call (kept_of s.next s.answers s.begin xs) → Occurs call xs
+  kept_occurs : (xs : List Action) (call : CallName) → Occurs call (counted_of s.next s.answers s.begin xs) → Occurs call xs
   kept_occurs xs call occurs =
       elim (kept_from (unmoved s.begin) xs occurs.0 occurs.1) [
         | inl none ↦ absurd none
@@ -145,14 +145,14 @@ module _ {S : Type 0} (s : Setting S) where
 
   -- only calls that counted are answered, in a log of right actions
   abbrev pub AnswersKnown : Type 0
-  AnswersKnown = (xs : List Action) → ((action : Action) → Has action xs → IsRight action) → (call : CallName) → Has call (map call_of (answers_of s xs)) → Has call (calls_made (kept_of s.next s.answers s.begin xs))
+  AnswersKnown = (xs : List Action) → ((action : Action) → Has action xs → IsRight action) → (call : CallName) → Has call (map call_of (answers_of s xs)) → Has call (calls_made (counted_of s.next s.answers s.begin xs))
 
   -- ---- where the calls below m + 1 are answered, and that one does not occur
 
   module _ (known : AnswersKnown) (xs : List Action) (right : (action : Action) → Has action xs → IsRight action) (t m : ℕ)
       (absent : ¬ Occurs (named t (suc m)) xs) (answered : (m ≡ 0) ⊎ Has (named t m) (map call_of (answers_of s xs))) where
     abbrev kept : List Action
-    kept = kept_of s.next s.answers s.begin xs
+    kept = counted_of s.next s.answers s.begin xs
 
     abbrev given : List Answer
     given = answers_of s xs
@@ -217,7 +217,7 @@ module _ {S : Type 0} (s : Setting S) where
   pub first_counts : (node : ℕ → NodePart) (task : ℕ → TaskPart) (sent : List Message) → IsKept s node task sent → AnswersKnown
       → (let order = order_of s.config.nodes sent in (t m k : ℕ) (action : Action) → slice_get order k ≡ Some action → calls_of action ≡ named t (suc m) ∷ []
       → ¬ Occurs (named t (suc m)) (take k order)
-      → counts (kept_of s.next s.answers s.begin (take k order)) (answers_of s (take k order)) action ≡ true)
+      → counts (counted_of s.next s.answers s.begin (take k order)) (answers_of s (take k order)) action ≡ true)
   first_counts node task sent kept known t m k action occurs is first =
       let order = order_of s.config.nodes sent in
       let here : Has action order = part_has order (suc k) action occurs in

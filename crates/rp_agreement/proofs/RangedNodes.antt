@@ -43,7 +43,7 @@ use Rattle.rp_agreement.proofs.RangedTurns.{ArePackets, AreReplies, IsRangedTurn
 use Rattle.rp_model.specs.Effect.{Setting, NodeInput, running_effect}
 use Rattle.rp_model.specs.Leader.{is_out_of_reach, unlearned_in}
 use Rattle.rp_model.specs.Learner.{missing_position, asks_for, missing_in_window, asks_for_each}
-use Rattle.rp_model.specs.Node.{RunningNode, running_node, kept_by, given_by, own_for}
+use Rattle.rp_model.specs.Node.{RunningNode, running_node, counted_by, given_by, own_for}
 use Rattle.rp_model.specs.Parts.{Running, Turn}
 use Rattle.rp_model.specs.Pending.{own_action}
 use Rattle.rp_model.specs.Plans.{offered_running, once_counted, once_learned, report_of, turn_of}
@@ -309,7 +309,7 @@ module _ {S : Type 0} (s : Setting S) (fits : (actions : List Action) → AllRig
   ballot_ranged b is left = subst IsBallot is (next_ranged me (starts_above records running) mine (leb_not (2 ^ 32) (round_of (ballot_of here)) left))
 
   own_ranged : (i : ℕ) → IsRight (own_for here i)
-  own_ranged i = own_right (kept_by here) (without_proposal running.proposals i) running.pending runs.pending
+  own_ranged i = own_right (counted_by here) (without_proposal running.proposals i) running.pending runs.pending
 
   proposal_ranged : (i : ℕ) (p : Proposal) → proposal_at running.proposals i ≡ Some p → IsRangedProposal p
   proposal_ranged i p is = runs.proposals p (found_has (λ (q : Proposal). nat_eq q.position i) p running.proposals is).0
@@ -401,7 +401,7 @@ module _ {S : Type 0} (s : Setting S) (fits : (actions : List Action) → AllRig
       let names = call_right saw.came.message.from saw.came.message.to call (came_packet saw.from (bodies.Call call) saw.came) in
       let fit = fits (applied_of records) (applied_right records all) in
       sending running (says_to_task me (bodies.Reply number reply) task ∷ []) runs
-      (one_packet _ (replied_task me task number reply mine names.0 names.1 (fit _ (kept_is_given task number (kept_by here) (given_by here) reply saw.kept))))
+      (one_packet _ (replied_task me task number reply mine names.0 names.1 (fit _ (kept_is_given task number (counted_by here) (given_by here) reply saw.kept))))
   plan_ranged (plans.Await item) saw = noted _ (record {
     proposals = runs.proposals;
     pending = λ c h. elim (has_split c running.pending (item ∷ []) h) [

@@ -41,7 +41,7 @@ use Rattle.rp_agreement.proofs.Arriving.{came_said, call_asked}
 use Rattle.rp_model.specs.Effect.{Setting, NodeInput, running_effect}
 use Rattle.rp_model.specs.Leader.{unlearned_in}
 use Rattle.rp_model.specs.Learner.{missing_position, asks_for, missing_in_window, asks_for_each}
-use Rattle.rp_model.specs.Node.{RunningNode, running_node, kept_by, own_for}
+use Rattle.rp_model.specs.Node.{RunningNode, running_node, counted_by, own_for}
 use Rattle.rp_model.specs.Parts.{Running, Turn, with_record}
 use Rattle.rp_model.specs.Plans.{once_counted, report_of, turn_of}
 use Rattle.rp_model.specs.Says.{says, says_to_all, says_to_others, says_to_task, sends, notes, writes}
@@ -115,7 +115,7 @@ module _ {S : Type 0} (s : Setting S) (x : ℕ) (node : ℕ → NodePart) (sent 
   leads i b own saw =
       let new = begins_new b saw.ballot in
       let unoffered = λ (v : Action). new_unoffered nodes x node sent i b v sound new.0 new.1 in
-      let asked = own_is_asked sent (kept_by here) (without_proposal running.proposals i) running.pending runs.pending in
+      let asked = own_is_asked sent (counted_by here) (without_proposal running.proposals i) running.pending runs.pending in
       plain nodes x records sent (turn_of here (plans.Lead i b own)) new
       (said_plain nodes x sent (records ++ Started b ∷ []) (bodies.Prepare i b) (has_right (Started b) records (Started b ∷ []) (inl refl)) (λ h. h) (one_to nodes))
       (runs_with sent (records ++ Started b ∷ []) running (new_proposal i b (Some own)) (runs_written sent records (Some (Started b)) running runs)
@@ -144,7 +144,7 @@ module _ {S : Type 0} (s : Setting S) (x : ℕ) (node : ℕ → NodePart) (sent 
       let is = runs.proposals p found.0 in
       let own = own_for here i in
       let both = and_parts (is_preparing p.phase) (is_promised nodes p) saw.prepared in
-      let asked = own_is_asked sent (kept_by here) (without_proposal running.proposals i) running.pending runs.pending in
+      let asked = own_is_asked sent (counted_by here) (without_proposal running.proposals i) running.pending runs.pending in
       let q : Proposal = record p { own = own_unless own (highest_vote p.promises) } in
       let stays : IsProposal sent records q = record {
         started = is.started;

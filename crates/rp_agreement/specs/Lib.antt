@@ -13,6 +13,7 @@ pub mod Noted
 pub mod Possible
 pub mod Answered
 pub mod Over
+pub mod RealTime
 pub use Rattle.rp_base
 pub use Rattle.rp_machine
 pub use Rattle.rp_model

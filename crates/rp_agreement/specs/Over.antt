@@ -12,7 +12,7 @@ use Rattle.rp_codec.specs.declared.packet.Body.{Body}
 use Rattle.rp_codec.specs.declared.packet.Body.TheVariants.{Call}
 use Rattle.rp_machine.specs.Asked.{last_number, last_occurrence}
 use Rattle.rp_machine.specs.Calls.{CallName, calls_of, call_of}
-use Rattle.rp_machine.specs.Replay.{kept_of, replay_answers}
+use Rattle.rp_machine.specs.Replay.{counted_of, replay_answers}
 use Rattle.rp_model.specs.Effect.{Setting, NodeInput, Receive, Interrupt, Tick}
 use Rattle.rp_model.specs.Parts.{Running, Turn}
 use Rattle.rp_model.specs.declared.effect.Dropped.TheVariants.{Full}
@@ -35,7 +35,7 @@ abbrev pub IsOverOnce : {S : Type 0} → Setting S → List Rec → ℕ → Acti
 IsOverOnce s records i v item =
     let before = applied_of records in
     let after = applied_of (records ++ Learned i v ∷ []) in
-    IsOver (kept_of s.next s.answers s.begin after) (replay_answers s.next s.answers s.begin after)
+    IsOver (counted_of s.next s.answers s.begin after) (replay_answers s.next s.answers s.begin after)
     (drop (length before) after) item
 
 -- the call that a packet asks for

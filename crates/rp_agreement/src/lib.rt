@@ -16,6 +16,7 @@
 //! - `ranges`: numbers stay within their ranges
 //! - `sends`: what one actor sends
 //! - `responses`: what a node does with an input
+//! - `real_time`: a call that is made after another's reply takes its place after it
 #![tactic(auto)]
 
 mod decisions;
@@ -26,6 +27,7 @@ mod opening;
 mod order;
 mod packets;
 mod ranges;
+mod real_time;
 mod replies;
 mod responses;
 mod sends;
@@ -51,6 +53,7 @@ pub use ranges::{
     events_keep_ranges, few_packets_are_sent, packets_are_right, records_stay_in_the_log,
     votes_are_in_the_window,
 };
+pub use real_time::calls_keep_real_time;
 pub use replies::{
     answers_are_one, calls_count_in_order, calls_count_where_they_first_occur, events_keep_replies,
     node_events_keep_replies, only_made_calls_count, replies_answer_calls_that_count,

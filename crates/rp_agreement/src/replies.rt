@@ -9,7 +9,7 @@ ghost use Rattle.rp_base.specs.declared.reply.Answer.{Answer};
 ghost use Rattle.rp_codec.specs.Message.{Message};
 ghost use Rattle.rp_machine.specs.Calls.{CallName, calls_of};
 ghost use Rattle.rp_machine.specs.Places.{IsAnswerOf, IsPlace, HasReply};
-ghost use Rattle.rp_machine.specs.Replay.{kept_of};
+ghost use Rattle.rp_machine.specs.Replay.{counted_of};
 ghost use Rattle.rp_model.specs.Answers.{Steps};
 ghost use Rattle.rp_model.specs.Effect.{Setting, Done, NodeInput, goes_on_as, untorn_part};
 ghost use Rattle.rp_model.specs.Effect.{node_effect, cut_effect, stop_effect, restart_part};
@@ -167,7 +167,7 @@ pub fn calls_count_in_order<M: Machine>()
         (task : ℕ → TaskPart) (sent : List Message)
         → IsKept (setting_for M.next M.answers M.begin config program) node task sent
         → let order = order_of config.nodes sent in
-        (t : ℕ) → AreItsCalls sent t (task t) (kept_of M.next M.answers (M.begin program) order) }
+        (t : ℕ) → AreItsCalls sent t (task t) (counted_of M.next M.answers (M.begin program) order) }
 {
     M::laws();
 }

@@ -17,7 +17,7 @@ ghost use Rattle.rp_base.specs.declared.reply.Answer.{Answer};
 ghost use Rattle.rp_codec.specs.declared.packet.Body.TheVariants.{Accept, Reply};
 ghost use Rattle.rp_machine.specs.Asked.{last_number, last_occurrence};
 ghost use Rattle.rp_machine.specs.Calls.{call_of};
-ghost use Rattle.rp_machine.specs.Replay.{kept_of, replay_answers};
+ghost use Rattle.rp_machine.specs.Replay.{counted_of, replay_answers};
 ghost use Rattle.rp_model.specs.Effect as inputs;
 ghost use Rattle.rp_model.specs.Effect.{Setting, NodeInput, Receive, Lead, running_effect};
 ghost use Rattle.rp_model.specs.Leader.{on_promise, is_out_of_reach};
@@ -46,7 +46,7 @@ pub fn an_answered_call_is_answered_again<M: Machine>()
         ((action : Action) → Has action applied → IsRight action)
         → 1 ≤ number → call_of answer ≡ named task number
         → Has answer (replay_answers M.next M.answers (M.begin program) applied)
-        → last_number task (kept_of M.next M.answers (M.begin program) applied) ≡ number
+        → last_number task (counted_of M.next M.answers (M.begin program) applied) ≡ number
         → running_effect (setting_for M.next M.answers M.begin config program) me records running
         (Receive (asks task me call))
         ≡ Ok (sends running (says_to_task me (Reply number answer.reply) task ∷ [])) }
@@ -105,7 +105,7 @@ pub fn pending_items_stay_until_they_are_over<M: Machine>()
     ensures calls { (setting : Setting M) (me task number object : ℕ) (operation : Operation)
         (arg : ℤ) (records : List Rec) (running : Running) (turn : Turn)
         → let applied = applied_of records in
-        let kept = kept_of setting.next setting.answers setting.begin applied in
+        let kept = counted_of setting.next setting.answers setting.begin applied in
         let given = replay_answers setting.next setting.answers setting.begin applied in
         let call : Action = Call task number object operation arg in
         running_effect setting me records running (Receive (asks task me call)) ≡ Ok turn
@@ -114,7 +114,7 @@ pub fn pending_items_stay_until_they_are_over<M: Machine>()
         (running : Running) (turn : Turn)
         → running_effect setting me records running (inputs.Interrupt source occurrence) ≡ Ok turn
         → (occurrence ≤ last_occurrence source
-        (kept_of setting.next setting.answers setting.begin (applied_of records)))
+        (counted_of setting.next setting.answers setting.begin (applied_of records)))
         ⊎ IsTaken running turn (Interrupt source occurrence) }
     ensures ticks { (setting : Setting M) (me now : ℕ) (records : List Rec) (running : Running)
         (turn : Turn)

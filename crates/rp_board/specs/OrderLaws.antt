@@ -5,7 +5,7 @@ use Rattle.rp_base.specs.declared.reply.Answer.{Answer}
 use Rattle.rp_codec.specs.Message.{Message}
 use Rattle.rp_model.specs.rp_machine.specs.Calls.{CallName}
 use Rattle.rp_model.specs.rp_machine.specs.Places.{HasReply, IsPlace}
-use Rattle.rp_model.specs.rp_machine.specs.Replay.{kept_of}
+use Rattle.rp_model.specs.rp_machine.specs.Replay.{counted_of}
 use Rattle.rp_model.specs.Effect.{Setting}
 use Rattle.rp_model.specs.Facts.{IsOrder}
 use Rattle.rp_model.specs.Parts.{NodePart, TaskPart}
@@ -29,7 +29,7 @@ pub record OrderLaws {S : Type 0} (s : Setting S) : Type 0 where
       → slice_get (task t).replies k ≡ Some answer
       → HasReply s.next s.answers s.begin order (named t (suc k)) answer)
   pub calls : OfEachOrder s (λ task sent order. (t : ℕ)
-      → AreItsCalls sent t (task t) (kept_of s.next s.answers s.begin order))
+      → AreItsCalls sent t (task t) (counted_of s.next s.answers s.begin order))
   pub made : OfEachOrder s (λ task sent order. (t n place : ℕ)
       → IsPlace s.next s.answers s.begin order (named t n) place
       → (1 ≤ n) × (n ≤ calls_so_far (task t)))

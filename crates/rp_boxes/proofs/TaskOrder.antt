@@ -4,7 +4,7 @@ use Rattle.rp_base.specs.Sets.{Has}
 use Rattle.rp_base.specs.declared.action.Action.{Action}
 use Rattle.rp_base.specs.declared.reply.Answer.{Answer}
 use Rattle.rp_model.specs.rp_machine.specs.Places.{HasReply}
-use Rattle.rp_model.specs.rp_machine.specs.Replay.{kept_of}
+use Rattle.rp_model.specs.rp_machine.specs.Replay.{counted_of}
 use Rattle.rp_model.specs.Effect.{Setting}
 use Rattle.rp_model.specs.Parts.{TaskPart}
 use Rattle.rp_model.specs.Tasks.{asks}
@@ -61,8 +61,8 @@ module _ {S : Type 0} (s : Setting S) (view : View) (parts : ℕ → Part) (worl
       record {
         replies = subst (λ (t : TaskPart). (k : ℕ) (answer : Answer) → slice_get t.replies k ≡ Some answer → HasReply s.next s.answers s.begin order (named number (suc k)) answer) task
             (laws.replies (node_among parts) (task_among parts) (all_sent parts 16) world.is.good.kept number);
-        calls = own_calls (task_of part.role) (kept_of s.next s.answers s.begin order)
-            (subst (λ (t : TaskPart). AreItsCalls (all_sent parts 16) number t (kept_of s.next s.answers s.begin order)) task (laws.calls (node_among parts) (task_among parts) (all_sent parts 16) world.is.good.kept number));
+        calls = own_calls (task_of part.role) (counted_of s.next s.answers s.begin order)
+            (subst (λ (t : TaskPart). AreItsCalls (all_sent parts 16) number t (counted_of s.next s.answers s.begin order)) task (laws.calls (node_among parts) (task_among parts) (all_sent parts 16) world.is.good.kept number));
       }
 
 -- the order that a task's place shows

@@ -3,7 +3,7 @@ use Rattle.std.proofs.Common.{◌≡◌, Bool, true, false, Some, None, List, re
 use Rattle.rp_base.specs.Records.{applied_of}
 use Rattle.rp_base.specs.declared.action.Action.{Action}
 use Rattle.rp_base.specs.declared.reply.Answer.{Answer}
-use Rattle.rp_model.specs.rp_machine.specs.Replay.{kept_of}
+use Rattle.rp_model.specs.rp_machine.specs.Replay.{counted_of}
 use Rattle.rp_model.specs.Parts.{NodePart, Running}
 use Rattle.rp_actors.specs.rp_replica.specs.State.{ReplicaState, part_of}
 use Rattle.rp_actors.specs.rp_server.specs.Free.{has_uncounted}
@@ -24,7 +24,7 @@ module _ {S P : Type 0} (next : S → Action → S) (answers : S → Action → 
   member = member_of seat.setup.number seat.setup.config (begin seat.setup.program)
 
   abbrev is_uncounted : Bool
-  is_uncounted = has_uncounted (kept_of next answers replica.begin (applied_of replica.records)) replica.running.pending
+  is_uncounted = has_uncounted (counted_of next answers replica.begin (applied_of replica.records)) replica.running.pending
 
   runs : replica.failed ≡ false → RunsAs member replica place.node
   runs working = subst (λ (b : Bool). RepresentsWhile member replica place.node b) working place.represents
@@ -37,7 +37,7 @@ module _ {S P : Type 0} (next : S → Action → S) (answers : S → Action → 
         is = place.is ∙ ap OfNode r.known;
         running = replica.running;
         runs = refl;
-        uncounted = subst (λ (b : S). has_uncounted (kept_of next answers b (applied_of replica.records)) replica.running.pending ≡ true) r.begin is;
+        uncounted = subst (λ (b : S). has_uncounted (counted_of next answers b (applied_of replica.records)) replica.running.pending ≡ true) r.begin is;
       }
 
   pub none_failed : replica.failed ≡ true → HasUncounted next answers begin seat → ⊥
@@ -51,11 +51,11 @@ module _ {S P : Type 0} (next : S → Action → S) (answers : S → Action → 
       let r = runs working in
       let same : h.node ≡ part_of replica = same_node seat.part.role h.node place.node h.is place.is ∙ r.known in
       let running : h.running ≡ replica.running = same_running h.running replica.running (sym h.runs ∙ ap (λ (n : NodePart). n.running) same) in
-      let here : has_uncounted (kept_of next answers (begin seat.setup.program) (applied_of replica.records)) h.running.pending ≡ true =
-      subst (λ (n : NodePart). has_uncounted (kept_of next answers (begin seat.setup.program) (applied_of n.records)) h.running.pending ≡ true) same h.uncounted in
-      let there : has_uncounted (kept_of next answers (begin seat.setup.program) (applied_of replica.records)) replica.running.pending ≡ true =
-      subst (λ (known : Running). has_uncounted (kept_of next answers (begin seat.setup.program) (applied_of replica.records)) known.pending ≡ true) running here in
+      let here : has_uncounted (counted_of next answers (begin seat.setup.program) (applied_of replica.records)) h.running.pending ≡ true =
+      subst (λ (n : NodePart). has_uncounted (counted_of next answers (begin seat.setup.program) (applied_of n.records)) h.running.pending ≡ true) same h.uncounted in
+      let there : has_uncounted (counted_of next answers (begin seat.setup.program) (applied_of replica.records)) replica.running.pending ≡ true =
+      subst (λ (known : Running). has_uncounted (counted_of next answers (begin seat.setup.program) (applied_of replica.records)) known.pending ≡ true) running here in
       let whole : is_uncounted ≡ true =
-      subst (λ (b : S). has_uncounted (kept_of next answers b (applied_of replica.records)) replica.running.pending ≡ true) (sym r.begin) there in
+      subst (λ (b : S). has_uncounted (counted_of next answers b (applied_of replica.records)) replica.running.pending ≡ true) (sym r.begin) there in
       let clash : true ≡ false = sym whole ∙ is in
       absurd (cc)

@@ -14,7 +14,7 @@ use Rattle.rp_codec.specs.Text.{text_of}
 use Rattle.rp_model.specs.Effect.{Done, NodeInput, node_effect}
 use Rattle.rp_model.specs.Plans.{report_of}
 use Rattle.rp_model.specs.declared.effect.Dropped.TheVariants.{No}
-use Rattle.rp_model.specs.rp_machine.specs.Replay.{kept_of}
+use Rattle.rp_model.specs.rp_machine.specs.Replay.{counted_of}
 use Rattle.rp_model.specs.Parts.{NodePart, Running}
 use Rattle.rp_agreement.specs.Sound.{IsMember}
 use Rattle.rp_actors.specs.rp_replica.specs.State.{ReplicaState}
@@ -129,7 +129,7 @@ module _ {S P : Type 0} (next : S → Action → S) (answers : S → Action → 
     pub running : Running
     pub runs : node.running ≡ Some running
     pub uncounted : has_uncounted
-        (kept_of next answers (begin seat.setup.program) (applied_of node.records)) running.pending ≡ true
+        (counted_of next answers (begin seat.setup.program) (applied_of node.records)) running.pending ≡ true
 
 -- ---- reports and states
 

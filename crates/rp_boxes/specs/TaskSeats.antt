@@ -12,7 +12,7 @@ use Rattle.rp_base.specs.declared.reply.Reply.{Reply}
 use Rattle.rp_codec.specs.Message.{Message}
 use Rattle.rp_codec.specs.Text.{text_of}
 use Rattle.rp_model.specs.rp_machine.specs.Places.{HasReply}
-use Rattle.rp_model.specs.rp_machine.specs.Replay.{kept_of}
+use Rattle.rp_model.specs.rp_machine.specs.Replay.{counted_of}
 use Rattle.rp_model.specs.Effect.{Done, goes_on_as}
 use Rattle.rp_model.specs.Parts.{TaskPart}
 use Rattle.rp_model.specs.Tasks.{TaskInput, Take, asks, takes_reply, task_effect}
@@ -95,4 +95,4 @@ pub record IsOfOrder {S : Type 0} (next : S → Action → S) (answers : S → A
     (begin : S) (order : List Action) (number : ℕ) (part : Part) : Type 0 where
   pub replies : (k : ℕ) (answer : Answer) → slice_get (task_of part.role).replies k ≡ Some answer
       → HasReply next answers begin order (named number (suc k)) answer
-  pub calls : AreItsCalls part.sent number (task_of part.role) (kept_of next answers begin order)
+  pub calls : AreItsCalls part.sent number (task_of part.role) (counted_of next answers begin order)

@@ -19,7 +19,7 @@ pub struct NodeAdvice {
     pub position: u16,
 }
 
-/// What the node of a handle is to do after quiet turns, by its patience, as `Node::advise` of
+/// What the node of a handle is to do after quiet turns, by its patience, as `HandleNode::advise` of
 /// `rp_requests`. `RP_WRONG_HANDLE` if the handle is closed or keeps a task: then nothing has changed.
 #[unsafe(no_mangle)]
 pub extern "C" fn rp_node_advise(

@@ -12,7 +12,7 @@ use rp_requests::{Lengths, Refusal};
 use std::alloc::Global;
 
 /// Answers a request to the node of a handle, if the kind is 1, or to its task, if it is 2, as
-/// `Node::call` or `Task::call` of `rp_requests`. `RP_WRONG_HANDLE` if the handle is closed or
+/// `HandleNode::call` or `Task::call` of `rp_requests`. `RP_WRONG_HANDLE` if the handle is closed or
 /// keeps the other kind, or if there is no such kind: then nothing has changed.
 #[unsafe(no_mangle)]
 pub extern "C" fn rp_handle_call(

@@ -16,7 +16,7 @@ use Rattle.rp_deck.specs.rp_deck_objects.specs.ObjectViews.{ProtectedText, prote
 use Rattle.rp_object.specs.rp_entry.specs.Queue.{empty_queues}
 use Rattle.rp_object.specs.rp_entry.specs.declared.operations.Entry.{Entry}
 use Rattle.rp_object.specs.rp_entry.specs.declared.state.Waiting.{Waiting}
-use Rattle.rp_object.specs.rp_machine.specs.Replay.{counts, Replayed, unmoved, replay_step, replay_from, replay_of, kept_of, replay_answers, replay_state}
+use Rattle.rp_object.specs.rp_machine.specs.Replay.{counts, Replayed, unmoved, replay_step, replay_from, replay_of, counted_of, replay_answers, replay_state}
 use Rattle.rp_object.specs.Image.{objects_image}
 use Rattle.rp_object.specs.Program.{operations_of}
 use Rattle.rp_object.specs.State.{Running, first_object, unset, first_state}
@@ -134,7 +134,7 @@ module _ (p q : Declarations) (same : AreAlike p q) (log : List Action) where
   replays : AlikeReplays (replay_of objects_next objects_answers (first_state p) log) (replay_of objects_next objects_answers (first_state q) log)
   replays = from_alike (unmoved (first_state p)) (unmoved (first_state q)) (record { state = starts_alike p q same; kept = refl; given = refl }) log
 
-  pub kept_alike : kept_of objects_next objects_answers (first_state p) log ≡ kept_of objects_next objects_answers (first_state q) log
+  pub kept_alike : counted_of objects_next objects_answers (first_state p) log ≡ counted_of objects_next objects_answers (first_state q) log
   kept_alike = replays.kept
 
   pub given_alike : replay_answers objects_next objects_answers (first_state p) log ≡ replay_answers objects_next objects_answers (first_state q) log

@@ -6,7 +6,7 @@ ghost use Rattle.std.specs.Arc.{arc_value};
 ghost use Rattle.rp_deck.specs.rp_base.specs.declared.action.Action.{Action};
 ghost use Rattle.rp_deck.specs.DeckViews.{deck_text};
 ghost use Rattle.rp_deck.specs.declared.deck.Deck.{Deck};
-ghost use Rattle.rp_object.specs.rp_machine.specs.Replay.{kept_of, replay_answers, replay_state};
+ghost use Rattle.rp_object.specs.rp_machine.specs.Replay.{counted_of, replay_answers, replay_state};
 ghost use Rattle.rp_object.specs.Image.{objects_image};
 ghost use Rattle.rp_object.specs.State.{first_state};
 ghost use Rattle.rp_object.specs.Step.{objects_next, objects_answers};
@@ -23,8 +23,8 @@ pub fn decks_of_one_meaning_behave_alike()
     ensures kept { (one other : Deck) (program same : Program) → deck_text one ≡ deck_text other
         → IsDeckOfObjects one program → IsDeckOfObjects other same → (log : List Action)
         → let begin = λ (p : Program). first_state (arc_value p.declarations) in
-        kept_of objects_next objects_answers (begin program) log
-        ≡ kept_of objects_next objects_answers (begin same) log }
+        counted_of objects_next objects_answers (begin program) log
+        ≡ counted_of objects_next objects_answers (begin same) log }
     // claim: The programs of two decks that mean the same give the same answers to each log
     ensures given { (one other : Deck) (program same : Program) → deck_text one ≡ deck_text other
         → IsDeckOfObjects one program → IsDeckOfObjects other same → (log : List Action)

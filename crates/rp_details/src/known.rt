@@ -10,7 +10,7 @@ use crate::lines::add_line;
 use rp_base::{Action, NodeId, Position};
 use rp_machine::Machine;
 use rp_model::RightAction;
-use rp_server::Server;
+use rp_server::Roles;
 use rp_store::CutDevice;
 use rp_world::Cluster;
 use std::alloc::{AllocError, Global};
@@ -38,7 +38,7 @@ pub fn add_known<M: Machine, D: CutDevice>(
 fn add_window<M: Machine>(
     alloc: Global,
     text: &mut Vec<u8>,
-    server: &Server<M>,
+    server: &Roles<M>,
 ) -> Result<(), AllocError>
     ensures { OnOk result (text.new.items ≡ text.old.items
         ++ window_lines server.now.config.max_positions server.now.records) }
@@ -56,7 +56,7 @@ fn add_window<M: Machine>(
 fn add_position<M: Machine>(
     alloc: Global,
     text: &mut Vec<u8>,
-    server: &Server<M>,
+    server: &Roles<M>,
     position: Position,
 ) -> Result<(), AllocError>
     ensures { OnOk result (text.new.items ≡ text.old.items

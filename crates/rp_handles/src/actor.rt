@@ -6,13 +6,13 @@ ghost use Rattle.rp_handles.specs.Handles.{ActorAdvises, ActorAnswers, ActorShow
 use rp_model::Dropped;
 use rp_object::Objects;
 use rp_patience::{Advice, Patience};
-use rp_requests::{Lengths, Node, Refusal, Task};
+use rp_requests::{HandleNode, Lengths, Refusal, Task};
 use std::alloc::Global;
 
 /// A node of a deck's protected objects, or a task.
 #[derive(Drop)]
 pub enum Actor {
-    Node(Node<Objects>),
+    Node(HandleNode<Objects>),
     Task(Task),
 }
 
@@ -45,7 +45,7 @@ impl ActorKind {
 }
 
 impl Actor {
-    /// Answers a request to an actor of this kind, as `Node::call` or `Task::call`; `None` if the
+    /// Answers a request to an actor of this kind, as `HandleNode::call` or `Task::call`; `None` if the
     /// actor is of the other kind.
     #[inline(always)]
     pub(crate) fn call(
@@ -71,7 +71,7 @@ impl Actor {
     }
 
     /// Answers the request that brings a packet to an actor of this kind, by the packet alone, as
-    /// `Node::receive` or `Task::receive`; `None` if the actor is of the other kind.
+    /// `HandleNode::receive` or `Task::receive`; `None` if the actor is of the other kind.
     pub(crate) fn receive(
         &mut self,
         alloc: Global,
@@ -95,7 +95,7 @@ impl Actor {
         }
     }
 
-    /// What a node is to do after quiet turns, as `Node::advise`; `None` if the actor is a task.
+    /// What a node is to do after quiet turns, as `HandleNode::advise`; `None` if the actor is a task.
     pub(crate) fn advise(&self, patience: &mut Patience, turns: u64) -> Option<Advice>
         ensures { ActorAdvises self.now turns patience.old patience.new result }
     {
@@ -106,7 +106,7 @@ impl Actor {
     }
 
     /// What the last step of a node gave besides its bytes, and where its packets end, as
-    /// `Node::put_ends`; `None` if the actor is a task.
+    /// `HandleNode::put_ends`; `None` if the actor is a task.
     pub(crate) fn last_step(&self, ends: &mut [usize]) -> Option<LastStep>
         ensures { ActorShows self.now ends.old ends.new result }
     {

@@ -97,7 +97,7 @@ pub fn open_task_after(
     Ok(())
 }
 
-/// Answers a request to the node or the task of a handle, as `Node::call` or `Task::call` of
+/// Answers a request to the node or the task of a handle, as `HandleNode::call` or `Task::call` of
 /// `rp_requests`; `None` if the handle is closed or keeps an actor of the other kind.
 pub fn call(
     alloc: Global,
@@ -139,7 +139,7 @@ pub fn receive(
     result
 }
 
-/// What a handle's node is to do after quiet turns, as `Node::advise` of `rp_requests`; `None` if the
+/// What a handle's node is to do after quiet turns, as `HandleNode::advise` of `rp_requests`; `None` if the
 /// handle keeps no node, and then the patience is as it was.
 pub fn advise(
     alloc: Global,
@@ -160,7 +160,7 @@ pub fn advise(
 }
 
 /// What the last step of a handle's node gave besides the bytes of its answer, and where its packets
-/// end, as `Node::put_ends` of `rp_requests`; `None` if the handle keeps no node.
+/// end, as `HandleNode::put_ends` of `rp_requests`; `None` if the handle keeps no node.
 pub fn last_step(alloc: Global, handle: &mut Handle, ends: &mut [usize]) -> Option<LastStep>
     // claim (shown): By a node's handle a caller learns where each packet of the node's last step ends,
     //   and what that step did not take

@@ -10,7 +10,7 @@ ghost use Rattle.rp_handles.specs.DeckNodes.{IsNoDeck, MeansDeck, OpensNode, Ope
 use rp_base::{Fault, NodeId};
 use rp_deck::{Deck, DeckProgram, Mode, read_deck};
 use rp_object::Objects;
-use rp_requests::{Node, Opened, Refusal};
+use rp_requests::{HandleNode, Opened, Refusal};
 use std::alloc::Global;
 
 /// Opens a node of a deck over the bytes of its device. The deck's script is not run. Refused with
@@ -36,7 +36,7 @@ pub(crate) fn node_of_deck(
     let node = node_of(config.nodes, number)?;
     match program {
         DeckProgram::Tally(_) => Err(Refusal::NoObjects),
-        DeckProgram::Objects(program) => Node::open(alloc, node, config, &program, bytes),
+        DeckProgram::Objects(program) => HandleNode::open(alloc, node, config, &program, bytes),
     }
 }
 

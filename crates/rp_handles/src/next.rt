@@ -9,7 +9,7 @@ use crate::handle::{Handle, closed, into_box, of};
 use rp_base::Fault;
 use rp_next_deck::next_deck;
 use rp_object::Objects;
-use rp_requests::Node;
+use rp_requests::HandleNode;
 use sha2::{Digest, Sha256};
 use std::alloc::{AllocError, Global};
 use std::mem::replace;
@@ -62,7 +62,7 @@ impl Actor {
 }
 
 /// The next deck of this deck by a node of it.
-fn deck_after(alloc: Global, node: &Node<Objects>, deck: &[u8]) -> Result<Vec<u8>, NoNextDeck>
+fn deck_after(alloc: Global, node: &HandleNode<Objects>, deck: &[u8]) -> Result<Vec<u8>, NoNextDeck>
     requires { length deck.now + 1 < 2 ^ 32 }
     ensures ok { IfOk result (λ next. GoesOn deck.now node.now next.items) }
     ensures err { IfErr result (GoesNotOn node.now) }

@@ -15,8 +15,8 @@ use Rattle.rp_agreement.specs.Ranges.{IsRangedWorld}
 use Rattle.rp_world.specs.Agreeing.{Agree}
 use Rattle.rp_world.specs.rp_replica.specs.State.{part_of}
 use Rattle.rp_requests.specs.Nodes.{NodeState, image_of}
-use Rattle.rp_pending.specs.Pending.{AreSteps, after_steps, bytes_of}
-use Rattle.rp_pending.proofs.Stepping.{made}
+use Rattle.rp_installations.specs.Pending.{AreSteps, after_steps, bytes_of}
+use Rattle.rp_installations.proofs.Stepping.{made}
 use Rattle.rp_installations.specs.Sites.{NodeSite, Installation}
 use Rattle.rp_installations.specs.Moves.{Moves, OpensFrom, AnswersBy}
 use Rattle.rp_installations.specs.Behind.{IsOpenOver, IsNodeOver, IsOpen, IsBehind, HasHistory}

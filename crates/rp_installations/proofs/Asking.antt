@@ -7,7 +7,7 @@ use Rattle.rp_base.proofs.Members.{has_left}
 use Rattle.rp_base.specs.Sets.{Has}
 use Rattle.rp_base.specs.declared.action.Action.{Action}
 use Rattle.rp_model.specs.World.{part_at}
-use Rattle.rp_pending.specs.Making.{AreAmong}
+use Rattle.rp_installations.specs.Making.{AreAmong}
 use Rattle.rp_requests.specs.Nodes.{NodeState}
 use Rattle.rp_requests.specs.Requests.{asked_of}
 use Rattle.rp_installations.specs.Behind.{WasAskedFor}

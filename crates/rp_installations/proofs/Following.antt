@@ -19,11 +19,11 @@ use Rattle.rp_agreement.specs.Ranges.{IsRangedWorld}
 use Rattle.rp_agreement.proofs.PartPlaces.{part_below, put_there, put_beside, put_length}
 use Rattle.rp_requests.specs.Nodes.{NodeState, after_step}
 use Rattle.rp_requests.specs.Requests.{asked_of}
-use Rattle.rp_pending.specs.Making.{GoesOnTo}
-use Rattle.rp_pending.proofs.Stepping.{stands_still}
+use Rattle.rp_installations.specs.Making.{GoesOnTo}
+use Rattle.rp_installations.proofs.Stepping.{stands_still}
 use Rattle.rp_installations.specs.Sites.{NodeSite, TaskSite, Installation, closed_over, unopened_task, nothing_opened}
-use Rattle.rp_pending.specs.Making.{AreAmong}
-use Rattle.rp_pending.specs.Pending.{noted_by}
+use Rattle.rp_installations.specs.Making.{AreAmong}
+use Rattle.rp_installations.specs.Pending.{noted_by}
 use Rattle.rp_installations.proofs.Asking.{asked_later}
 use Rattle.rp_installations.specs.Moves.{noted_if, is_step_made, site_answered, with_step, AsksSite, OpensSite, NodeMove, TaskMove, Move, Moves, OpensFrom, AnswersBy}
 use Rattle.rp_installations.specs.Moves as moves

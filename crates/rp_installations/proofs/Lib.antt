@@ -9,3 +9,12 @@ pub mod Asking
 pub mod Following
 pub mod Agreeing
 pub mod Ordering
+pub mod Stepping
+pub mod Stopping
+pub mod Buffer
+pub mod Moving
+pub mod Packets
+pub mod Deeds
+pub mod Plays
+pub mod Kept
+pub mod Reopened

@@ -21,11 +21,11 @@ use Rattle.rp_agreement.proofs.PartPlaces.{part_has}
 use Rattle.rp_world.specs.rp_outbox.specs.Packets.{texts_of}
 use Rattle.rp_world.specs.rp_replica.specs.State.{ReplicaState, part_of}
 use Rattle.rp_requests.specs.Nodes.{NodeState, after_step}
-use Rattle.rp_pending.specs.Pending.{noted_by, noted_in, PendingStep, MayCome, AreSteps, after_steps, bytes_of, bytes_written}
+use Rattle.rp_installations.specs.Pending.{noted_by, noted_in, PendingStep, MayCome, AreSteps, after_steps, bytes_of, bytes_written}
 use Rattle.rp_base.specs.declared.action.Action.{Action}
-use Rattle.rp_pending.specs.Making.{AreAmong, GoesOnTo}
-use Rattle.rp_pending.proofs.Stepping.{steps_stay, one_more, leads_on, stands_still, made, node_here, noted_append}
-use Rattle.rp_pending.proofs.Stopping.{fronts, taken_front, texts_after, torn_after, stopped}
+use Rattle.rp_installations.specs.Making.{AreAmong, GoesOnTo}
+use Rattle.rp_installations.proofs.Stepping.{steps_stay, one_more, leads_on, stands_still, made, node_here, noted_append}
+use Rattle.rp_installations.proofs.Stopping.{fronts, taken_front, texts_after, torn_after, stopped}
 use Rattle.rp_installations.specs.Sites.{StepPackets, NodeSite}
 use Rattle.rp_installations.specs.Moves.{IsPacketIn, all_given, with_step, Appends, Syncs, Closes, HandsOn, OpensSite, OpensFrom, AnswersBy}
 use Rattle.rp_installations.specs.Starts.{AnswerAlike}

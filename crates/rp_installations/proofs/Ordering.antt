@@ -22,8 +22,8 @@ use Rattle.rp_agreement.proofs.PartPlaces.{part_below}
 use Rattle.rp_world.specs.Agreeing.{IsOrdered}
 use Rattle.rp_world.specs.rp_replica.specs.State.{part_of}
 use Rattle.rp_requests.specs.Nodes.{NodeState}
-use Rattle.rp_pending.specs.Pending.{AreSteps, after_steps}
-use Rattle.rp_pending.proofs.Stepping.{made}
+use Rattle.rp_installations.specs.Pending.{AreSteps, after_steps}
+use Rattle.rp_installations.proofs.Stepping.{made}
 use Rattle.rp_installations.specs.Sites.{NodeSite, Installation}
 use Rattle.rp_installations.specs.Behind.{IsOpenOver, IsNodeOver, IsOpen, IsClosed, IsBehind, AreAskedFor, HasHistory}
 use Rattle.rp_installations.specs.Outcomes.{HasWorldNow, IsAskedFor, HasOrder}

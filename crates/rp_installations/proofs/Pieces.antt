@@ -12,7 +12,7 @@ use Rattle.rp_model.specs.Effect.{Setting, node_effect, turn_done}
 use Rattle.rp_model.specs.Parts.{NodePart}
 use Rattle.rp_agreement.specs.Order.{AllSent}
 use Rattle.rp_world.specs.rp_outbox.specs.Packets.{texts_of}
-use Rattle.rp_pending.specs.Pending.{PendingStep, MayCome, AreSteps, after_steps, bytes_of, bytes_written}
+use Rattle.rp_installations.specs.Pending.{PendingStep, MayCome, AreSteps, after_steps, bytes_of, bytes_written}
 use Rattle.rp_installations.specs.Sites.{StepPackets}
 use Rattle.rp_installations.specs.Behind.{AreTextsSent, end_after, packets_of}
 

@@ -20,7 +20,7 @@ use Rattle.rp_model.specs.Effect.{NodeInput}
 use Rattle.rp_world.specs.rp_rules.specs.Inputs.{packet_given}
 use Rattle.rp_requests.specs.Requests.{Asked, Step, Applied, Image, LastAnswer, Left, Pending, Counted, given, lead_asked, interrupt_asked, tick_asked, report_asked, range_if, range_asked, counted_asked, question_asked, asked_of_kind, asked_of, ask_asked}
 use Rattle.rp_requests.specs.TaskRequests.{TaskAsked, MakeCall, SendAgain, TakePacket, operation_numbered, is_party, arg_at, call_with, call_if, call_asked, again_asked, task_asked_by, task_asked_of}
-use Rattle.rp_pending.specs.Pending.{MayCome}
+use Rattle.rp_installations.specs.Pending.{MayCome}
 use Rattle.rp_installations.specs.Moves.{AreBytes, WasHandedOn, node_receives_byte, task_receives_byte}
 
 -- every packet that was handed on is the text of one that was sent

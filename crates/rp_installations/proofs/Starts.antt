@@ -18,7 +18,7 @@ use Rattle.rp_model.specs.rp_codec.specs.Message.{Message}
 use Rattle.rp_model.specs.rp_codec.specs.declared.packet.Body.{Body}
 use Rattle.rp_model.specs.rp_codec.specs.declared.packet.Body.TheVariants as bodies
 use Rattle.rp_model.specs.rp_machine.specs.Asked.{last_number, last_occurrence, kept_reply}
-use Rattle.rp_model.specs.rp_machine.specs.Replay.{kept_of, replay_answers}
+use Rattle.rp_model.specs.rp_machine.specs.Replay.{counted_of, replay_answers}
 use Rattle.rp_model.specs.Arrivals.{adds_pending, on_numbered, on_call}
 use Rattle.rp_model.specs.Effect.{Setting, NodeInput, plan_of, turn_if, running_effect}
 use Rattle.rp_model.specs.Leader.{begins_if, leads_at, on_lead, chosen_position, is_beyond, is_out_of_reach, ballot_of, is_exhausted}
@@ -58,7 +58,7 @@ module _ {S : Type 0} (config : Config) (next : S → Action → S) (answers : S
   numbered_by kept task number call None = cond (nat_lt number (last_number task kept)) (plans.Pass No) (adds_pending running.pending call)
 
   numbered_is : (begin : S) (task number : ℕ) (call : Action) (reply : Option Reply)
-      → on_numbered (from_start begin) task number call reply ≡ numbered_by (kept_of next answers begin applied) task number call reply
+      → on_numbered (from_start begin) task number call reply ≡ numbered_by (counted_of next answers begin applied) task number call reply
   numbered_is begin task number call None = refl
   numbered_is begin task number call (Some reply) = refl
 
@@ -67,11 +67,11 @@ module _ {S : Type 0} (config : Config) (next : S → Action → S) (answers : S
   call_alike (actions.Call task number object operation arg) =
       let call = actions.Call task number object operation arg in
       let reply : List Action → List Answer → Option Reply = kept_reply task number in
-      let same : numbered_by (kept_of next answers one applied) task number call (reply (kept_of next answers one applied) (replay_answers next answers one applied))
-      ≡ numbered_by (kept_of next answers other applied) task number call (reply (kept_of next answers other applied) (replay_answers next answers other applied)) =
+      let same : numbered_by (counted_of next answers one applied) task number call (reply (counted_of next answers one applied) (replay_answers next answers one applied))
+      ≡ numbered_by (counted_of next answers other applied) task number call (reply (counted_of next answers other applied) (replay_answers next answers other applied)) =
       λ i. numbered_by (alike.kept applied i) task number call (reply (alike.kept applied i) (alike.given applied i)) in
-      numbered_is one task number call (reply (kept_of next answers one applied) (replay_answers next answers one applied)) ∙ same
-      ∙ sym (numbered_is other task number call (reply (kept_of next answers other applied) (replay_answers next answers other applied)))
+      numbered_is one task number call (reply (counted_of next answers one applied) (replay_answers next answers one applied)) ∙ same
+      ∙ sym (numbered_is other task number call (reply (counted_of next answers other applied) (replay_answers next answers other applied)))
   call_alike (actions.Interrupt source occurrence) = refl
   call_alike (actions.Tick now) = refl
 

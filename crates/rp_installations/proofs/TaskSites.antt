@@ -36,14 +36,14 @@ use Rattle.rp_agreement.specs.History.{IsHistory}
 use Rattle.rp_agreement.specs.Order.{AllSent}
 use Rattle.rp_agreement.proofs.Lists.{has_get}
 use Rattle.rp_agreement.proofs.PartPlaces.{put_there, put_beside}
-use Rattle.rp_pending.proofs.Stepping.{goes_on}
+use Rattle.rp_installations.proofs.Stepping.{goes_on}
 use Rattle.rp_requests.specs.Buffers.{IsPutInFront}
 use Rattle.rp_requests.specs.TaskRequests.{TaskAsked, MakeCall, SendAgain, TakePacket, task_asked_of}
 use Rattle.rp_requests.specs.Tasks.{TaskAnswers, TaskDoes, CallPut, call_packet, again_text, is_task, outstanding_reply, reply_taken, once_taken, taken_text}
 use Rattle.rp_requests.specs.declared.buffer.Lengths.{Lengths}
 use Rattle.rp_requests.specs.declared.refusal.Refusal.{Refusal}
 use Rattle.rp_requests.specs.rp_tasks.specs.Calls.{Calls, no_calls, refusal_of, with_reply}
-use Rattle.rp_pending.specs.Making.{NoteOnly, notes_of}
+use Rattle.rp_installations.specs.Making.{NoteOnly, notes_of}
 use Rattle.rp_installations.specs.Sites.{TaskSite}
 use Rattle.rp_installations.specs.Moves.{AnsweredRequest, IsThroughNode, answer_in, call_given, reply_given, OpensTask, AsksTask}
 use Rattle.rp_installations.specs.Behind.{IsTaskOver, calls_kept}

@@ -13,9 +13,9 @@ use Rattle.rp_agreement.specs.Answered.{calls_so_far}
 use Rattle.rp_agreement.specs.History.{IsHistory}
 use Rattle.rp_model.specs.Events.{Event}
 use Rattle.rp_world.specs.rp_outbox.specs.Packets.{texts_of}
-use Rattle.rp_pending.specs.Making.{AreAmong, notes_of}
-use Rattle.rp_pending.specs.Pending.{PendingStep, AreSteps, after_steps, bytes_of, bytes_written}
-use Rattle.rp_pending.specs.Pending.{noted_in}
+use Rattle.rp_installations.specs.Making.{AreAmong, notes_of}
+use Rattle.rp_installations.specs.Pending.{PendingStep, AreSteps, after_steps, bytes_of, bytes_written}
+use Rattle.rp_installations.specs.Pending.{noted_in}
 use Rattle.rp_world.specs.rp_replica.specs.State.{part_of}
 use Rattle.rp_requests.specs.Nodes.{NodeState}
 use Rattle.rp_requests.specs.rp_tasks.specs.Calls.{Calls}

@@ -3,11 +3,14 @@ pub mod Sites
 pub mod Moves
 pub mod Behind
 pub mod Outcomes
+pub mod Pending
+pub mod Making
+pub mod Breaches
+pub mod Kept
 pub use Rattle.rp_agreement
 pub use Rattle.rp_base
 pub use Rattle.rp_model.specs.rp_machine
 pub use Rattle.rp_world.specs.rp_outbox
-pub use Rattle.rp_pending
 pub use Rattle.rp_world.specs.rp_replica
 pub use Rattle.rp_requests
 pub use Rattle.rp_world.specs.rp_store

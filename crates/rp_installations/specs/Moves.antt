@@ -13,7 +13,7 @@ use Rattle.rp_model.specs.rp_codec.specs.Message.{Message, IsPacket}
 use Rattle.rp_model.specs.rp_codec.specs.Text.{text_of}
 use Rattle.rp_model.specs.World.{part_at, with_part}
 use Rattle.rp_world.specs.rp_outbox.specs.Packets.{texts_of}
-use Rattle.rp_pending.specs.Pending.{noted_by}
+use Rattle.rp_installations.specs.Pending.{noted_by}
 use Rattle.rp_requests.specs.Nodes.{NodeState, RequestAnswers}
 use Rattle.rp_requests.specs.Opening.{IsOpenedNode}
 use Rattle.rp_requests.specs.Requests.{Asked, Step, asked_of}

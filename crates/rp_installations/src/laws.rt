@@ -18,8 +18,8 @@ ghost use Rattle.rp_installations.specs.Outcomes.{AgreeAs, GivesAnswer, HasOrder
 ghost use Rattle.rp_installations.specs.Outcomes.{IsOpenAt};
 ghost use Rattle.rp_installations.specs.Sites.{Installation, NodeSite};
 
+use crate::histories_keep_ranges;
 use rp_machine::Machine;
-use rp_pending::histories_keep_ranges;
 use rp_world::histories_are_ordered;
 
 /// The answer of a step has in its buffer what the step gives: the bytes for the device and then

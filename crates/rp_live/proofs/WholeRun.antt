@@ -10,7 +10,7 @@ use Rattle.rp_threads.specs.rp_base.specs.declared.config.Config.{Config}
 use Rattle.rp_threads.specs.rp_base.specs.declared.reply.Answer.{Answer}
 use Rattle.rp_threads.specs.rp_codec.specs.declared.packet.Party.TheVariants.{Node, Task}
 use Rattle.rp_boxes.specs.rp_machine.specs.Places.{IsPlace}
-use Rattle.rp_boxes.specs.rp_machine.specs.Replay.{kept_of}
+use Rattle.rp_boxes.specs.rp_machine.specs.Replay.{counted_of}
 use Rattle.rp_boxes.specs.rp_model.specs.declared.event.Event.{Event}
 use Rattle.rp_boxes.specs.rp_agreement.specs.Answered.{named}
 use Rattle.rp_boxes.specs.rp_store.specs.Disk.{Memory}
@@ -145,9 +145,9 @@ module _ {S P : Type 0} {next : S → Action → S} {answers : S → Action → 
             ∙ zip_length HasReportedSince nodes stated.last stated.reported ∙ zip_length (IsNodeEnd next answers begin config events seed turns) whole.0.noted nodes whole.0.node_loops
             ∙ zip_length IsSame whole.0.first_nodes whole.0.noted (all_noted next answers begin events (length events) whole.0.first_nodes whole.0.noted whole.0.notes) ∙ whole.0.seats.size;
         calls = all_both HasCalls (λ end. IsTaskOf next answers (begin stated.known.seat.setup.program) order end.seat)
-            (λ end. CountsCalls end.seat.setup.number (calls_at events end.seat.setup.number) end.made (kept_of next answers (begin program) order))
-            (λ end has is. subst (λ (p : P). CountsCalls end.seat.setup.number (calls_at events end.seat.setup.number) end.made (kept_of next answers (begin p) order)) same
-            (counts_calls (calls_at events end.seat.setup.number) end.seat end.made has.0 has.1 (kept_of next answers (begin stated.known.seat.setup.program) order) is.calls)) tasks tasks_made are;
+            (λ end. CountsCalls end.seat.setup.number (calls_at events end.seat.setup.number) end.made (counted_of next answers (begin program) order))
+            (λ end has is. subst (λ (p : P). CountsCalls end.seat.setup.number (calls_at events end.seat.setup.number) end.made (counted_of next answers (begin p) order)) same
+            (counts_calls (calls_at events end.seat.setup.number) end.seat end.made has.0 has.1 (counted_of next answers (begin stated.known.seat.setup.program) order) is.calls)) tasks tasks_made are;
         made = λ t n place at.
             let here = subst (λ (p : P). IsPlace next answers (begin p) order (named t n) place) (sym same) at in
             let counted = stated.together.of_world.made t n place here in

@@ -10,7 +10,7 @@ use Rattle.rp_threads.specs.rp_codec.specs.declared.packet.Party.TheVariants.{No
 use Rattle.rp_board.specs.Parts.{task_of}
 use Rattle.rp_board.specs.Seats.{SeatState}
 use Rattle.rp_boxes.specs.rp_machine.specs.Places.{IsPlace}
-use Rattle.rp_boxes.specs.rp_machine.specs.Replay.{kept_of}
+use Rattle.rp_boxes.specs.rp_machine.specs.Replay.{counted_of}
 use Rattle.rp_boxes.specs.rp_model.specs.declared.event.Event.{Event}
 use Rattle.rp_boxes.specs.rp_store.specs.Disk.{Memory}
 use Rattle.rp_boxes.specs.rp_agreement.specs.Answered.{named}
@@ -105,7 +105,7 @@ module _ {S P : Type 0} (next : S → Action → S) (answers : S → Action → 
     pub size : length outcome.applied.items ≡ config.nodes
     pub calls : All (λ end.
         CountsCalls end.seat.setup.number (calls_at events end.seat.setup.number) end.made
-        (kept_of next answers (begin program) stated.together.order)) tasks
+        (counted_of next answers (begin program) stated.together.order)) tasks
     pub made : (t n place : ℕ)
         → IsPlace next answers (begin program) stated.together.order (named t n) place
         → (end : TaskEnd S P) × Has end tasks × (end.seat.setup.number ≡ t) × (1 ≤ n) × (n ≤ end.made)

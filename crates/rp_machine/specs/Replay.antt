@@ -102,8 +102,8 @@ module _ {S : Type 0} (next : S → Action → S) (answers : S → Action → Li
   replay_of actions = replay_from next answers (unmoved begin) actions
 
   -- the actions of a log that count
-  abbrev pub kept_of : List Action → List Action
-  kept_of actions = (replay_of actions).kept
+  abbrev pub counted_of : List Action → List Action
+  counted_of actions = (replay_of actions).kept
 
   -- the state that a log leads to
   abbrev pub replay_state : List Action → S

@@ -5,7 +5,7 @@ ghost use Rattle.rp_base.specs.Action.{IsRight, IsIndex};
 ghost use Rattle.rp_base.specs.Sets.{IsSet};
 ghost use Rattle.rp_base.specs.declared.action.Action.{Action};
 ghost use Rattle.rp_machine.specs.Calls.{calls_made, call_of};
-ghost use Rattle.rp_machine.specs.Replay.{answers_after, counts, kept_of, occurrences_of};
+ghost use Rattle.rp_machine.specs.Replay.{answers_after, counts, counted_of, occurrences_of};
 ghost use Rattle.rp_machine.specs.Asked.{last_number, last_occurrence, waits, answer_to, kept_reply};
 ghost use Rattle.rp_machine.specs.Numbered.{outcome, with_action, with_occurrence, with_answers};
 
@@ -254,7 +254,7 @@ fn hear(callers: &mut [Caller; CALLERS], answers: &[Answer])
 pub fn calls_count_once<M: Machine>()
     // claim: A call counts once in any log
     ensures { (begin : M) (actions : List Action)
-        → IsSet (calls_made (kept_of M.next M.answers begin actions)) }
+        → IsSet (calls_made (counted_of M.next M.answers begin actions)) }
 {}
 
 /// An occurrence of an interrupt's source counts once in any log, at however many nodes it is noted
@@ -262,5 +262,5 @@ pub fn calls_count_once<M: Machine>()
 pub fn occurrences_count_once<M: Machine>()
     // claim: An occurrence of a source counts once in any log
     ensures { (begin : M) (actions : List Action) (source : ℕ)
-        → IsSet (occurrences_of source (kept_of M.next M.answers begin actions)) }
+        → IsSet (occurrences_of source (counted_of M.next M.answers begin actions)) }
 {}

@@ -34,7 +34,7 @@ use Rattle.rp_model.specs.Arrivals.{adds_pending, on_numbered, on_call}
 use Rattle.rp_model.specs.Effect.{NodeInput, Receive, Lead, LeadRange, Interrupt, Tick, Report, Ask, plan_of, turn_if}
 use Rattle.rp_model.specs.Leader.{chosen_position, is_beyond, is_out_of_reach, unlearned_in, ballot_of, is_exhausted, begins_if, leads_at, on_lead, on_lead_range, counts_promise, on_promise_to}
 use Rattle.rp_model.specs.Learner.{ask_plan, decision_plan, on_vote}
-use Rattle.rp_model.specs.Node.{RunningNode, nodes_of, kept_by, given_by, own_for}
+use Rattle.rp_model.specs.Node.{RunningNode, nodes_of, counted_by, given_by, own_for}
 use Rattle.rp_model.specs.Parts.{Running, Turn}
 use Rattle.rp_model.specs.Pending.{most_pending, is_same_call}
 use Rattle.rp_model.specs.Plans.{turn_of, promised_running, offered_running, once_counted, heard_running}
@@ -113,7 +113,7 @@ module _ {S : Type 0} (node : RunningNode S) (input : NodeInput) where
     pub operation : Operation
     pub arg : ℤ
     pub came : Came from (bodies.Call (actions.Call task number object operation arg))
-    pub kept : kept_reply task number (kept_by node) (given_by node) ≡ Some reply
+    pub kept : kept_reply task number (counted_by node) (given_by node) ≡ Some reply
 
   -- what brings an item
   pub data Brings (item : Action) : Type 0 where
@@ -282,16 +282,16 @@ module _ {S : Type 0} (node : RunningNode S) (input : NodeInput) where
       (λ room. record { brought = brought; new = new; room = room }) (λ _. tt))
 
   numbered_saw : (from task number object : ℕ) (operation : Operation) (arg : ℤ) → Came from (bodies.Call (actions.Call task number object operation arg))
-      → (reply : Option CallReply) → kept_reply task number (kept_by node) (given_by node) ≡ reply → Saw (on_numbered node task number (actions.Call task number object operation arg) reply)
+      → (reply : Option CallReply) → kept_reply task number (counted_by node) (given_by node) ≡ reply → Saw (on_numbered node task number (actions.Call task number object operation arg) reply)
   numbered_saw from task number object operation arg came (Some reply) is = record { from = from; object = object; operation = operation; arg = arg; came = came; kept = is }
   numbered_saw from task number object operation arg came None is =
       let call = actions.Call task number object operation arg in
-      either (nat_lt number (last_number task (kept_by node))) (plans.Pass No) _ (λ _. tt) (λ _. adds_saw call (ByCall from task number object operation arg came refl))
+      either (nat_lt number (last_number task (counted_by node))) (plans.Pass No) _ (λ _. tt) (λ _. adds_saw call (ByCall from task number object operation arg came refl))
 
   call_saw : (from : ℕ) (call : Action) → Came from (bodies.Call call) → Saw (on_call node call)
   call_saw from actions.Noop came = tt
   call_saw from (actions.Call task number object operation arg) came =
-      numbered_saw from task number object operation arg came (kept_reply task number (kept_by node) (given_by node)) refl
+      numbered_saw from task number object operation arg came (kept_reply task number (counted_by node) (given_by node)) refl
   call_saw from (actions.Interrupt source occurrence) came = tt
   call_saw from (actions.Tick now) came = tt
 
@@ -386,7 +386,7 @@ module _ {S : Type 0} (node : RunningNode S) (input : NodeInput) where
   saw (Lead choice) is = lead_saw choice is
   saw (LeadRange first count) is = lead_range_saw first count is (range_of first count) refl
   saw (Interrupt source occurrence) is =
-      either (nat_lt (last_occurrence source (kept_by node)) occurrence) _ (plans.Pass No)
+      either (nat_lt (last_occurrence source (counted_by node)) occurrence) _ (plans.Pass No)
       (λ _. adds_saw (actions.Interrupt source occurrence) (ByInterrupt source occurrence is refl)) (λ _. tt)
   saw (Tick now) is = adds_saw (actions.Tick now) (ByTick now is refl)
   saw (Report first) is = is

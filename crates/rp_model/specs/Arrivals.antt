@@ -5,7 +5,7 @@ use Rattle.rp_base.specs.declared.action.Action.{Action}
 use Rattle.rp_base.specs.declared.action.Action.TheVariants.{Noop, Call, Interrupt, Tick}
 use Rattle.rp_base.specs.declared.reply.Reply.{Reply}
 use Rattle.rp_machine.specs.Asked.{last_number, last_occurrence, kept_reply}
-use Rattle.rp_model.specs.Node.{RunningNode, kept_by, given_by}
+use Rattle.rp_model.specs.Node.{RunningNode, counted_by, given_by}
 use Rattle.rp_model.specs.Pending.{most_pending, is_same_call}
 use Rattle.rp_model.specs.declared.effect.Dropped.TheVariants.{No, Full}
 use Rattle.rp_model.specs.declared.plan.Plan.{Plan}
@@ -24,7 +24,7 @@ module _ {S : Type 0} (node : RunningNode S) where
   abbrev pub on_numbered : ℕ → ℕ → Action → Option Reply → Plan
   on_numbered task number call (Some reply) = plans.Answer task number reply
   on_numbered task number call None =
-      if nat_lt number (last_number task (kept_by node)) then plans.Pass No
+      if nat_lt number (last_number task (counted_by node)) then plans.Pass No
       else adds_pending node.running.pending call
 
   -- Call: a task asks (the action is a call by the packet's rules)
@@ -32,14 +32,14 @@ module _ {S : Type 0} (node : RunningNode S) where
   on_call Noop = plans.Pass No
   on_call (Call task number object operation arg) =
       on_numbered task number (Call task number object operation arg)
-      (kept_reply task number (kept_by node) (given_by node))
+      (kept_reply task number (counted_by node) (given_by node))
   on_call (Interrupt source occurrence) = plans.Pass No
   on_call (Tick now) = plans.Pass No
 
   -- an interrupt is noted: it becomes pending unless it or a higher one of its source counted
   abbrev pub on_interrupt : ℕ → ℕ → Plan
   on_interrupt source occurrence =
-      if nat_lt (last_occurrence source (kept_by node)) occurrence
+      if nat_lt (last_occurrence source (counted_by node)) occurrence
       then adds_pending node.running.pending (Interrupt source occurrence)
       else plans.Pass No
 

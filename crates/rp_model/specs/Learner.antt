@@ -21,7 +21,7 @@ use Rattle.rp_base.specs.Promises.{same_heard, makes_majority, heard_elsewhere}
 use Rattle.rp_base.specs.Proposals.{without_proposal}
 use Rattle.rp_codec.specs.Message.{Message}
 use Rattle.rp_codec.specs.declared.packet.Body.TheVariants as bodies
-use Rattle.rp_machine.specs.Replay.{kept_of, replay_answers}
+use Rattle.rp_machine.specs.Replay.{counted_of, replay_answers}
 use Rattle.rp_model.specs.Parts.{Running}
 use Rattle.rp_model.specs.Parts.{Turn}
 use Rattle.rp_model.specs.Node.{RunningNode, nodes_of}
@@ -79,7 +79,7 @@ module _ {S : Type 0} (next : S → Action → S) (answers : S → Action → Li
         proposals = without_proposal running.proposals i;
         heard = heard_elsewhere running.heard i;
         pending =
-            filter (stays (kept_of next answers begin after) given (drop (length before) after))
+            filter (stays (counted_of next answers begin after) given (drop (length before) after))
             running.pending;
       })
       (packets ++ replies_to me running.pending

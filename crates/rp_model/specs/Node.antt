@@ -6,7 +6,7 @@ use Rattle.rp_base.specs.declared.record.Rec.{Rec}
 use Rattle.rp_base.specs.declared.reply.Answer.{Answer}
 use Rattle.rp_base.specs.Proposals.{without_proposal}
 use Rattle.rp_base.specs.Records.{applied_of}
-use Rattle.rp_machine.specs.Replay.{kept_of, replay_answers}
+use Rattle.rp_machine.specs.Replay.{counted_of, replay_answers}
 use Rattle.rp_model.specs.Parts.{Running}
 use Rattle.rp_model.specs.Pending.{own_action}
 
@@ -35,9 +35,9 @@ module _ {S : Type 0} (node : RunningNode S) where
   nodes_of = node.setting.config.nodes
 
   -- the actions that count of what the node has applied
-  abbrev pub kept_by : List Action
-  kept_by =
-      let s = node.setting in kept_of s.next s.answers s.begin (applied_of node.records)
+  abbrev pub counted_by : List Action
+  counted_by =
+      let s = node.setting in counted_of s.next s.answers s.begin (applied_of node.records)
 
   -- the answers to what the node has applied
   abbrev pub given_by : List Answer
@@ -47,4 +47,4 @@ module _ {S : Type 0} (node : RunningNode S) where
   -- the action that a proposal at this position takes as its own
   abbrev pub own_for : ℕ → Action
   own_for i =
-      own_action kept_by (without_proposal node.running.proposals i) node.running.pending
+      own_action counted_by (without_proposal node.running.proposals i) node.running.pending

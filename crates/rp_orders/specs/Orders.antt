@@ -7,7 +7,7 @@ use Rattle.rp_machine.specs.rp_base.specs.declared.action.Action.{Action}
 use Rattle.rp_machine.specs.rp_base.specs.declared.reply.Answer.{Answer}
 use Rattle.rp_machine.specs.Asked.{last_number, last_occurrence, waits}
 use Rattle.rp_machine.specs.Places.{counts_after}
-use Rattle.rp_machine.specs.Replay.{Replayed, replay_of, kept_of, replay_answers, answers_after}
+use Rattle.rp_machine.specs.Replay.{Replayed, replay_of, counted_of, replay_answers, answers_after}
 use Rattle.rp_orders.specs.Guards.{is_allowed, may_go_on}
 use Rattle.rp_orders.specs.declared.guard.Guard.{Guard}
 
@@ -44,7 +44,7 @@ module _ {S : Type 0} (next : S → Action → S) (answers : S → Action → Li
 
   -- the guards let the action be decided after the order
   abbrev pub MayFollow : List Action → Action → Type 0
-  MayFollow order action = IsTrue (is_allowed guards (kept_of next answers begin order)
+  MayFollow order action = IsTrue (is_allowed guards (counted_of next answers begin order)
       (replay_answers next answers begin order) action)
 
   -- each action of the order that counts is one that the guards let be decided after those before
@@ -71,7 +71,7 @@ module _ {S : Type 0} (next : S → Action → S) (answers : S → Action → Li
   -- After the order a call of the task waits, and whatever may happen changes nothing: the task
   -- waits for ever.
   pub record IsStuck (may : List Action) (task : ℕ) (order : List Action) : Type 0 where
-    pub waits : IsTrue (waits task (kept_of next answers begin order)
+    pub waits : IsTrue (waits task (counted_of next answers begin order)
         (replay_answers next answers begin order))
     pub quiet : IsFinal may order
 
@@ -89,7 +89,7 @@ module _ {S : Type 0} (next : S → Action → S) (answers : S → Action → Li
   -- counts is one that may happen, and that the guards let be decided.
   pub record IsOrderOf (may : List Action) (order : List Action) : Type 0 where
     pub right : AreRight order
-    pub among : AreAmong may (kept_of next answers begin order)
+    pub among : AreAmong may (counted_of next answers begin order)
     pub guarded : IsGuarded order
 
   -- some order of what may happen gives the answer

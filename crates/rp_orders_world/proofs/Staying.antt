@@ -11,7 +11,7 @@ use Rattle.rp_world.specs.rp_base.specs.declared.reply.Reply.{Reply}
 use Rattle.rp_world.specs.rp_machine.specs.Asked.{last_number, waits, answer_to, kept_reply}
 use Rattle.rp_world.specs.rp_machine.specs.Calls.{CallName, call_of}
 use Rattle.rp_world.specs.rp_machine.specs.Places.{IsPlace, IsAnswerOf, HasReply, counts_after}
-use Rattle.rp_world.specs.rp_machine.specs.Replay.{counts, is_for, Replayed, GoesOn, unmoved, replay_step, replay_from, replay_of, kept_of, replay_answers}
+use Rattle.rp_world.specs.rp_machine.specs.Replay.{counts, is_for, Replayed, GoesOn, unmoved, replay_step, replay_from, replay_of, counted_of, replay_answers}
 use Rattle.rp_world.specs.rp_machine.proofs.Asking.{call_counts}
 use Rattle.rp_world.specs.rp_machine.proofs.Numbering.{counted as counted_all}
 use Rattle.rp_world.specs.rp_machine.proofs.Replaying.{replay_from-append, goes_on_from}
@@ -143,14 +143,14 @@ module _ {S : Type 0} (next : S → Action → S) (answers : S → Action → Li
       -- the reply that the task got before a call that counts is the one that is kept
       same_reply : (before rest : List Action) (task number object : ℕ) (operation : Operation) (arg : ℤ) (part : TaskPart) → order ≡ before ++ Call task number object operation arg ∷ rest
           → counts_after next answers begin before (Call task number object operation arg) ≡ true → part_at w.tasks task ≡ Some part → number ≤ calls_so_far part
-          → (n : ℕ) → last_number task (kept_of next answers begin before) ≡ n → number ≡ n + 1
-          → reply_before number part.replies ≡ last_reply task (kept_of next answers begin before) (replay_answers next answers begin before)
+          → (n : ℕ) → last_number task (counted_of next answers begin before) ≡ n → number ≡ n + 1
+          → reply_before number part.replies ≡ last_reply task (counted_of next answers begin before) (replay_answers next answers begin before)
       same_reply before rest task number object operation arg part is counted at so_far zero last number_is =
-          let kept = kept_of next answers begin before in
+          let kept = counted_of next answers begin before in
           let given = replay_answers next answers begin before in
           ap (λ (j : ℕ). reply_before j part.replies) number_is ∙ sym (ap (λ (j : ℕ). kept_reply task j kept given) last)
       same_reply before rest task number object operation arg part is counted at so_far (suc k) last number_is =
-          let kept = kept_of next answers begin before in
+          let kept = counted_of next answers begin before in
           let given = replay_answers next answers begin before in
           let fine = counted_all next answers begin before in
           let up : number ≡ suc (suc k) = omega (arith, number_is) in
@@ -170,7 +170,7 @@ module _ {S : Type 0} (next : S → Action → S) (answers : S → Action → Li
       follows before rest Noop is counted = refl
       follows before rest (Call task number object operation arg) is counted =
           let action : Action = Call task number object operation arg in
-          let kept = kept_of next answers begin before in
+          let kept = counted_of next answers begin before in
           let given = replay_answers next answers begin before in
           let place : IsPlace next answers begin order (named task number) (suc (length before)) =
           record { before = before; action = action; following = rest; occurs = is; here = refl; is_call = refl; takes_effect = counted } in

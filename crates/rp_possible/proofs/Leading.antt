@@ -10,7 +10,7 @@ use Rattle.rp_base.specs.declared.record.Rec.{Rec}
 use Rattle.rp_base.specs.declared.record.Rec.TheVariants.{Started}
 use Rattle.rp_base.proofs.MoreRecords.{started_push}
 use Rattle.rp_model.specs.rp_codec.specs.declared.packet.Body.TheVariants.{Prepare}
-use Rattle.rp_model.specs.rp_machine.specs.Replay.{kept_of}
+use Rattle.rp_model.specs.rp_machine.specs.Replay.{counted_of}
 use Rattle.rp_model.specs.Effect as nodes
 use Rattle.rp_model.specs.Effect.{Setting, running_effect}
 use Rattle.rp_model.specs.Parts.{Running}
@@ -71,7 +71,7 @@ module _ {S : Type 0} (s : Setting S) (quorum : List ℕ) (t first x : ℕ) (fro
         let unlearned = still_unlearned (records x) (now x) applied in
         let turn = writes (Started ballot) (gathers pending p ballot own []) (says_to_all s.config.nodes x (Prepare p ballot)) in
         let place : p ≡ first_unlearned (now x) = ap (λ (l : List Action). suc (length l)) (sym applied) in
-        let same_own : own ≡ own_action (kept_after s (now x)) [] pending = ap (λ (l : List Action). own_action (kept_of s.next s.answers s.begin l) [] pending) (sym applied) in
+        let same_own : own ≡ own_action (kept_after s (now x)) [] pending = ap (λ (l : List Action). own_action (counted_of s.next s.answers s.begin l) [] pending) (sym applied) in
         let low : round_of ballot < 2 ^ 32 = omega (arith, round_low, begun.left) in
         led s quorum t first x from w now (opens pending p own o) (gathers pending p ballot own []) p turn leading.on begun.bare.leader node (is_position s quorum x records round begun)
         (record {

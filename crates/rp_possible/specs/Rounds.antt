@@ -14,7 +14,7 @@ use Rattle.rp_base.specs.declared.reply.Answer.{Answer}
 use Rattle.rp_model.specs.rp_codec.specs.Message.{Message}
 use Rattle.rp_model.specs.rp_codec.specs.declared.packet.Party.{Party}
 use Rattle.rp_model.specs.rp_codec.specs.declared.packet.Party.TheVariants.{Node, Task, Audit}
-use Rattle.rp_model.specs.rp_machine.specs.Replay.{kept_of, replay_answers}
+use Rattle.rp_model.specs.rp_machine.specs.Replay.{counted_of, replay_answers}
 use Rattle.rp_model.specs.Effect.{Setting}
 use Rattle.rp_model.specs.Events.{Step, Deliver, Lead, LeadRange, Interrupt, Tick, Report, Ask}
 use Rattle.rp_model.specs.Events.{Event, Submit, Again, Makes, Cut, Stop, Restart, IsRightEvent}
@@ -95,7 +95,7 @@ only_pending pending = record fresh_running { pending = pending }
 module _ {S : Type 0} (s : Setting S) where
   -- the actions that count of what the records have applied
   abbrev pub kept_after : List Rec → List Action
-  kept_after records = kept_of s.next s.answers s.begin (applied_of records)
+  kept_after records = counted_of s.next s.answers s.begin (applied_of records)
 
   -- the answers to what the records have applied
   abbrev pub answers_after : List Rec → List Answer

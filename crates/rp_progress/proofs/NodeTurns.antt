@@ -12,7 +12,7 @@ use Rattle.rp_base.specs.declared.reply.Answer.{Answer}
 use Rattle.rp_base.specs.declared.reply.Reply.{Reply as CallReply}
 use Rattle.rp_codec.specs.declared.packet.Body.TheVariants as bodies
 use Rattle.rp_machine.specs.Asked.{last_number, answer_to, kept_reply}
-use Rattle.rp_machine.specs.Replay.{kept_of, replay_answers}
+use Rattle.rp_machine.specs.Replay.{counted_of, replay_answers}
 use Rattle.rp_model.specs.Arrivals.{on_numbered, adds_pending}
 use Rattle.rp_model.specs.Effect.{Setting, Receive, running_effect}
 use Rattle.rp_model.specs.Node.{RunningNode, running_node}
@@ -29,7 +29,7 @@ use Rattle.rp_possible.specs.Rounds.{only_pending}
 module _ {S : Type 0} (s : Setting S) where
   module _ (x t n object : ℕ) (operation : Operation) (arg : ℤ) (records : List Rec) where
     abbrev counted : List Action
-    counted = kept_of s.next s.answers s.begin (applied_of records)
+    counted = counted_of s.next s.answers s.begin (applied_of records)
 
     abbrev given : List Answer
     given = replay_answers s.next s.answers s.begin (applied_of records)

@@ -18,7 +18,7 @@ use Rattle.rp_codec.specs.Message.{Message}
 use Rattle.rp_machine.specs.Asked.{last_number, answer_to}
 use Rattle.rp_machine.specs.Calls.{CallName, calls_of, call_of}
 use Rattle.rp_machine.specs.Places.{counts_after, IsPlace, IsAnswerOf}
-use Rattle.rp_machine.specs.Replay.{number_for, numbers_of, is_for, unmoved, kept_of}
+use Rattle.rp_machine.specs.Replay.{number_for, numbers_of, is_for, unmoved, counted_of}
 use Rattle.rp_machine.proofs.Calling.{made_number}
 use Rattle.rp_model.specs.Effect.{Setting}
 use Rattle.rp_model.specs.Parts.{NodePart, TaskPart}
@@ -115,7 +115,7 @@ module _ {S : Type 0} (s : Setting S) (node : ℕ → NodePart) (task : ℕ → 
   applied = applied_of (node x).records
 
   abbrev counted : List Action
-  counted = kept_of s.next s.answers s.begin applied
+  counted = counted_of s.next s.answers s.begin applied
 
   abbrev given : List Answer
   given = answers_of s applied

@@ -31,8 +31,8 @@ pub record ProposerPart : Type 0 where
   pub refused : Option ℕ
 
 -- the greatest ballot counted, or 0: the next one lies above it
-abbrev pub counted_by : ProposerPart → ℕ
-counted_by part = max part.started (number_of part.refused)
+abbrev pub greatest_counted : ProposerPart → ℕ
+greatest_counted part = max part.started (number_of part.refused)
 
 -- a proposer whose node wrote these records: no proposal runs
 abbrev pub restored : ℕ → ℕ → List Rec → ProposerPart

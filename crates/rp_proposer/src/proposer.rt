@@ -11,7 +11,7 @@ ghost use Rattle.rp_base.specs.Ranges.{is_covered};
 ghost use Rattle.rp_base.specs.Sets.{IsSet};
 ghost use Rattle.rp_proposer.specs.Rows.{IsBusy, in_row};
 ghost use Rattle.rp_proposer.specs.Room.{own_count, own_actions_of, Rises, IsLastBelow};
-ghost use Rattle.rp_proposer.specs.Proposing.{counted_by, restored, ballot_at, HasRoom, begins, is_own, is_own_elsewhere, index_from, AreInWindow, IsInWindow, progress_in, waits_for_promises, notes_promise, notes_refusal, settles, most_running, unskipped, begins_range, notes_range, prepared_by, offers};
+ghost use Rattle.rp_proposer.specs.Proposing.{greatest_counted, restored, ballot_at, HasRoom, begins, is_own, is_own_elsewhere, index_from, AreInWindow, IsInWindow, progress_in, waits_for_promises, notes_promise, notes_refusal, settles, most_running, unskipped, begins_range, notes_range, prepared_by, offers};
 
 use crate::promise::{HeardPromise, HeardRange};
 use crate::proposal::{Progress, Proposal};
@@ -101,12 +101,12 @@ impl Proposer {
     pub fn ballot(&self) -> Result<Ballot, Fault>
         // claim: A next ballot is above all that the proposer counted, or `BallotsSpent` exactly if
         //   there is none
-        ensures next { IfOk result (IsNext self.now.node (counted_by self.now)) }
-        ensures value { IfOk result (λ b. b ≡ next_ballot self.now.node (counted_by self.now)) }
+        ensures next { IfOk result (IsNext self.now.node (greatest_counted self.now)) }
+        ensures value { IfOk result (λ b. b ≡ next_ballot self.now.node (greatest_counted self.now)) }
         ensures exhausted { IsErrOf result Fault.BallotsSpent ↔ ((b : ℕ)
-            → ¬ IsAbove self.now.node (counted_by self.now) b) }
+            → ¬ IsAbove self.now.node (greatest_counted self.now) b) }
         ensures full { IsErrOf result Fault.BallotsSpent
-            ↔ (2 ^ 32 ≤ round_of (next_ballot self.now.node (counted_by self.now))) }
+            ↔ (2 ^ 32 ≤ round_of (next_ballot self.now.node (greatest_counted self.now))) }
         ensures only { IsOkUnless result Fault.BallotsSpent }
     {
         Ballot::next_for(self.node, Ballot::greater(self.started, self.refused))
@@ -134,7 +134,7 @@ impl Proposer {
     #[inline(always)]
     pub fn begin(&mut self, position: Position, ballot: Ballot, own: Option<Action>)
         requires room { HasRoom self.old.proposals position }
-        requires ballot { IsAbove self.old.node (counted_by self.old) ballot }
+        requires ballot { IsAbove self.old.node (greatest_counted self.old) ballot }
         ensures { self.new ≡ begins self.old position ballot own }
     {
         let proposal = Proposal::new(position, ballot, own);
@@ -152,7 +152,7 @@ impl Proposer {
     pub fn begin_range(&mut self, range: PositionRange, skip: u64, ballot: Ballot)
         requires room { length (with_range self.old.proposals ballot (unskipped range skip))
             ≤ most_running }
-        requires ballot { IsAbove self.old.node (counted_by self.old) ballot }
+        requires ballot { IsAbove self.old.node (greatest_counted self.old) ballot }
         // claim: A proposal begins at each position of a range that is not left out, without an
         //   action of its own
         ensures { self.new ≡ begins_range self.old (unskipped range skip) ballot }

@@ -19,7 +19,7 @@ use Rattle.rp_codec.proofs.Decoded.{whole_read, whole_again}
 use Rattle.rp_model.specs.rp_machine.specs.Asked.{last_occurrence}
 use Rattle.rp_model.specs.Parts.{Turn}
 use Rattle.rp_model.specs.Arrivals.{adds_pending, on_interrupt}
-use Rattle.rp_model.specs.Node.{RunningNode, kept_by}
+use Rattle.rp_model.specs.Node.{RunningNode, counted_by}
 use Rattle.rp_model.specs.Pending.{is_same_call, most_pending}
 use Rattle.rp_model.specs.Plans.{turn_of as plan_turn}
 use Rattle.rp_model.specs.declared.effect.Dropped.TheVariants.{No, Full}
@@ -62,7 +62,7 @@ module _ {S : Type 0} (node : RunningNode S) where
   -- an interrupt is noted
   pub interrupt_adds_none : (source occurrence : ℕ) → PlanTakesNone (on_interrupt node source occurrence)
   interrupt_adds_none source occurrence =
-      one_none (nat_lt (last_occurrence source (kept_by node)) occurrence) (adds_pending node.running.pending (Interrupt source occurrence)) (plans.Pass No)
+      one_none (nat_lt (last_occurrence source (counted_by node)) occurrence) (adds_pending node.running.pending (Interrupt source occurrence)) (plans.Pass No)
       (adds_none (Interrupt source occurrence)) (record { written = refl; sent = refl; heard = refl })
 
 -- ---- what follows for a result

@@ -322,7 +322,7 @@ impl<M: Machine, D: Device> Replica<M, D> {
         self.server.keep(&mut self.store, rec)
     }
 
-    /// Writes the promise of the ballot at the position, as `Server::keep_first_promise`.
+    /// Writes the promise of the ballot at the position, as `Roles::keep_first_promise`.
     #[inline(always)]
     fn keep_first_promise(
         &mut self,
@@ -343,7 +343,7 @@ impl<M: Machine, D: Device> Replica<M, D> {
             .keep_first_promise(&mut self.store, position, ballot)
     }
 
-    /// Writes a vote, whose record's text this is, as `Server::keep_first_vote`.
+    /// Writes a vote, whose record's text this is, as `Roles::keep_first_vote`.
     #[inline(always)]
     fn keep_first_vote(
         &mut self,

@@ -8,7 +8,7 @@ ghost use Rattle.rp_replica.specs.Opening.{Opens, IsRefusedOpening};
 use crate::replica::Replica;
 use rp_base::{Config, Fault, NodeId, Rec};
 use rp_machine::Machine;
-use rp_server::Server;
+use rp_server::Roles;
 use rp_store::{Device, Opened, Store};
 use std::alloc::Global;
 
@@ -70,7 +70,7 @@ impl<M: Machine, D: Device> Replica<M, D> {
         } = Store::open(alloc, device)?;
         let count = records.len() as u64;
         skip(&mut records, config.max_positions);
-        match Server::restart(alloc, node, config, program, &records) {
+        match Roles::restart(alloc, node, config, program, &records) {
             Ok(server) => Ok(Opening {
                 replica: Replica { server, store },
                 records: count,

@@ -3,7 +3,7 @@
 ghost use Rattle.std.specs.Prelude.{◌≡◌, ◌≤◌, length};
 ghost use Rattle.rp_base.specs.Records.{applied_of};
 ghost use Rattle.rp_model.specs.rp_machine.specs.Asked.{last_number};
-ghost use Rattle.rp_model.specs.rp_machine.specs.Replay.{kept_of};
+ghost use Rattle.rp_model.specs.rp_machine.specs.Replay.{counted_of};
 ghost use Rattle.rp_model.specs.Learner.{missing_position};
 ghost use Rattle.rp_model.specs.Pending.{most_pending};
 ghost use Rattle.rp_replica.specs.State.{server_of};
@@ -12,7 +12,7 @@ ghost use Rattle.rp_rules.specs.rp_server.specs.Free.{free_items, has_uncounted}
 use crate::replica::Replica;
 use rp_base::{NodeId, Position, TaskId};
 use rp_machine::Machine;
-use rp_server::Server;
+use rp_server::Roles;
 use rp_store::Device;
 
 impl<M: Machine, D: Device> Replica<M, D> {
@@ -24,7 +24,7 @@ impl<M: Machine, D: Device> Replica<M, D> {
     }
 
     /// Its server, which answers what it promised and voted, and what is pending.
-    pub fn server(&self) -> &Server<M>
+    pub fn server(&self) -> &Roles<M>
         ensures { result.now ≡ server_of self.now }
     {
         &self.server
@@ -37,7 +37,7 @@ impl<M: Machine, D: Device> Replica<M, D> {
         // claim (value): A node returns how many pending items are free: they did not count yet, and
         //   no proposal that it runs has one of them as its own action
         ensures value { result ≡ length (free_items
-            (kept_of M.next M.answers self.now.begin (applied_of self.now.records))
+            (counted_of M.next M.answers self.now.begin (applied_of self.now.records))
             self.now.running.proposals self.now.running.pending) }
         ensures within { result ≤ most_pending }
     {
@@ -49,7 +49,7 @@ impl<M: Machine, D: Device> Replica<M, D> {
     pub fn has_uncounted(&self) -> bool
         // claim: A node returns whether something is pending at it that did not count yet
         ensures { result ≡ has_uncounted
-            (kept_of M.next M.answers self.now.begin (applied_of self.now.records))
+            (counted_of M.next M.answers self.now.begin (applied_of self.now.records))
             self.now.running.pending }
     {
         self.server.has_uncounted()
@@ -66,7 +66,7 @@ impl<M: Machine, D: Device> Replica<M, D> {
     pub fn last_number(&self, task: TaskId) -> u32
         // claim: A node returns the number of a task's last call that counted at it
         ensures { result ≡ last_number task
-            (kept_of M.next M.answers self.now.begin (applied_of self.now.records)) }
+            (counted_of M.next M.answers self.now.begin (applied_of self.now.records)) }
     {
         self.server.last_number(task)
     }

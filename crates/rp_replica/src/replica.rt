@@ -10,7 +10,7 @@ ghost use Rattle.rp_replica.specs.State.{part_of};
 
 use rp_base::Fault;
 use rp_machine::Machine;
-use rp_server::Server;
+use rp_server::Roles;
 use rp_store::{Device, Store};
 use std::alloc::Global;
 use std::marker::Model;
@@ -25,7 +25,7 @@ use std::marker::Model;
 /// knows while it runs, what its device holds, and whether that has failed.
 #[derive(Drop)]
 pub struct Replica<M: Machine, D: Device> {
-    pub(crate) server: Server<M>,
+    pub(crate) server: Roles<M>,
     pub(crate) store: Store<D>,
 }
 

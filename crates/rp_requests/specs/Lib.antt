@@ -7,6 +7,7 @@ pub mod Opening
 pub mod Tails
 pub mod TaskRequests
 pub mod Tasks
+pub mod Texts
 pub use Rattle.rp_base
 pub use Rattle.rp_codec
 pub use Rattle.rp_replica.specs.rp_model

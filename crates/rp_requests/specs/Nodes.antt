@@ -12,7 +12,7 @@ use Rattle.rp_base.specs.declared.record.Rec.{Rec}
 use Rattle.rp_base.specs.declared.reply.Answer.{Answer}
 use Rattle.rp_codec.specs.Record.{record_text}
 use Rattle.rp_replica.specs.rp_machine.specs.Asked.{last_number}
-use Rattle.rp_replica.specs.rp_machine.specs.Replay.{kept_of, replay_state}
+use Rattle.rp_replica.specs.rp_machine.specs.Replay.{counted_of, replay_state}
 use Rattle.rp_replica.specs.rp_model.specs.Parts.{Turn}
 use Rattle.rp_replica.specs.rp_model.specs.Effect.{NodeInput}
 use Rattle.rp_replica.specs.rp_model.specs.Effect as inputs
@@ -136,7 +136,7 @@ ImageAnswers image before after result = PutsOr [] image before after result
 module _ {S : Type 0} (next : S → Action → S) (answers : S → Action → List Answer) where
   -- the actions that counted at a node
   abbrev pub counted_at : NodeState S → List Action
-  counted_at node = kept_of next answers node.replica.begin (applied_of node.replica.records)
+  counted_at node = counted_of next answers node.replica.begin (applied_of node.replica.records)
 
   -- how many of its pending items are free
   abbrev pub free_at : NodeState S → ℕ

@@ -4,12 +4,12 @@ ghost use Rattle.std.specs.Prelude.{◌≡◌, nat_eq, IfOk, IsOkUnless};
 ghost use Rattle.rp_base.specs.declared.fault.Fault.TheVariants as faults;
 ghost use Rattle.rp_requests.specs.Nodes.{image_of, positions_left};
 
-use crate::node::Node;
+use crate::node::HandleNode;
 use rp_base::{Config, Fault};
 use rp_machine::Machine;
 use std::alloc::Global;
 
-impl<M: Machine> Node<M> {
+impl<M: Machine> HandleNode<M> {
     /// How many nodes there are, and how many positions the log has.
     pub fn config(&self) -> Config
         ensures { result ≡ self.now.replica.config }

@@ -12,6 +12,8 @@
 //! - `ended`: what a station asks of a node whose log has ended
 //! - `task_request`: a caller's request to a task, as bytes
 //! - `task`: a task that answers requests
+//! - `request_texts`: each request has a text, and reading it gives the request back: laws
+//! - `refused_texts`: bytes of another kind or length ask for nothing: laws
 #![tactic(auto)]
 
 mod buffer;
@@ -20,14 +22,18 @@ mod node;
 mod opening;
 mod questions;
 mod refusal;
+mod refused_texts;
 mod request;
+mod request_texts;
 mod tail;
 mod task;
 mod task_request;
 
 pub use buffer::Lengths;
-pub use node::{Node, STEP_BYTES};
+pub use node::{HandleNode, STEP_BYTES};
 pub use opening::Opened;
 pub use refusal::Refusal;
+pub use refused_texts::{no_other_text_is_a_node_request, no_other_text_is_a_task_request};
+pub use request_texts::{node_requests_are_read_back, task_requests_are_read_back};
 pub use tail::Tail;
 pub use task::{TASK_BYTES, Task};

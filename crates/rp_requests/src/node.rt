@@ -30,7 +30,7 @@ const WINDOW: u32 = 64;
 
 /// A node with a copy of its device.
 #[derive(Drop)]
-pub struct Node<M: Machine> {
+pub struct HandleNode<M: Machine> {
     pub(crate) replica: Replica<M, MemDevice>,
     /// How many positions the log has.
     pub(crate) positions: u16,
@@ -44,7 +44,7 @@ pub struct Node<M: Machine> {
     next_packets: Outbox,
 }
 
-impl<M: Machine> Model for Node<M> {
+impl<M: Machine> Model for HandleNode<M> {
     ghost use Rattle.std.specs.Prelude.{◌≡◌, ◌≤◌, drop, length};
     ghost use Rattle.rp_replica.specs.rp_outbox.specs.Packets.{ends_of, texts_of};
     ghost use Rattle.rp_requests.specs.Nodes.{NodeState};
@@ -63,7 +63,7 @@ impl<M: Machine> Model for Node<M> {
         × (n.positions ≡ n.replica.config.max_positions) };
 }
 
-impl<M: Machine> Node<M> {
+impl<M: Machine> HandleNode<M> {
     /// A node that was just opened, and has made no step.
     pub(crate) fn new(alloc: Global, replica: Replica<M, MemDevice>, config: Config) -> Self
         requires { config ≡ replica.config }
@@ -76,7 +76,7 @@ impl<M: Machine> Node<M> {
         } }
     {
         let last_record = replica.stored() as usize;
-        Node {
+        HandleNode {
             replica,
             positions: config.max_positions,
             last_record,

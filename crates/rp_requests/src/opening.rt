@@ -8,7 +8,7 @@ ghost use Rattle.rp_requests.specs.Opening.{IsOpenedNode};
 ghost use Rattle.rp_requests.specs.Tails.{tail_of};
 ghost use Rattle.rp_requests.specs.declared.refusal.Refusal.TheVariants as refusals;
 
-use crate::node::Node;
+use crate::node::HandleNode;
 use crate::refusal::Refusal;
 use crate::tail::{Tail, tail_of};
 use rp_base::{Config, Fault, NodeId};
@@ -20,7 +20,7 @@ use std::alloc::Global;
 /// The result of opening a node.
 #[derive(Drop)]
 pub struct Opened<M: Machine> {
-    pub node: Node<M>,
+    pub node: HandleNode<M>,
     /// How many records the device holds.
     pub records: usize,
     /// How many bytes of the device are whole records: the caller truncates what is after them.
@@ -29,7 +29,7 @@ pub struct Opened<M: Machine> {
     pub tail: Tail,
 }
 
-impl<M: Machine> Node<M> {
+impl<M: Machine> HandleNode<M> {
     /// Opens a node over the bytes of its device, which are copied: it runs with the whole records
     /// at the front of these bytes. Refused only with `OutOfMemory`.
     pub fn open(
@@ -58,7 +58,7 @@ impl<M: Machine> Node<M> {
                 let kept = opening.replica.stored() as usize;
                 let tail = tail_after(alloc, bytes, kept)?;
                 Ok(Opened {
-                    node: Node::new(alloc, opening.replica, config),
+                    node: HandleNode::new(alloc, opening.replica, config),
                     records,
                     kept,
                     tail,

@@ -9,13 +9,13 @@ ghost use Rattle.rp_requests.specs.Buffers.{PutsOr};
 ghost use Rattle.rp_requests.specs.Nodes.{counted_at, free_at};
 
 use crate::buffer::{Lengths, put};
-use crate::node::Node;
+use crate::node::HandleNode;
 use crate::refusal::Refusal;
 use rp_base::TaskId;
 use rp_machine::Machine;
 use rp_patience::{Advice, Patience, Situation};
 
-impl<M: Machine> Node<M> {
+impl<M: Machine> HandleNode<M> {
     /// How many pending items are free.
     pub(crate) fn free_pending(&self) -> u32
         ensures { result ≡ free_at M.next M.answers self.now }

@@ -48,7 +48,7 @@ pub(crate) fn request_of(bytes: &[u8]) -> Option<Request<'_>>
         18 if operands.is_empty() => Some(Request::LastAnswer),
         19 if operands.is_empty() => Some(Request::Left),
         20 if operands.is_empty() => Some(Request::Pending),
-        21 => counted_of(operands),
+        21 => last_counted_of(operands),
         _ => None,
     }
 }
@@ -138,7 +138,7 @@ fn ask_of(operands: &[u8]) -> Option<Request<'static>>
 }
 
 /// The question for a task's last call that counted: the task, 1 to 8, in one byte.
-fn counted_of(operands: &[u8]) -> Option<Request<'static>>
+fn last_counted_of(operands: &[u8]) -> Option<Request<'static>>
     ensures asked { option_map asked result ≡ counted_asked operands.now }
     ensures right { IfSome result IsRightRequest }
 {

@@ -16,12 +16,12 @@ use rp_base::{
 use rp_codec::Header;
 use rp_machine::Machine;
 use rp_model::{Dropped, Plan, RangePromise};
-use rp_server::Server;
+use rp_server::Roles;
 
 /// A `Prepare` comes.
 #[inline(always)]
 pub(crate) fn on_prepare<M: Machine>(
-    server: &Server<M>,
+    server: &Roles<M>,
     from: NodeId,
     position: Position,
     ballot: Ballot,
@@ -50,7 +50,7 @@ pub(crate) fn on_prepare<M: Machine>(
 /// A `PrepareRange` comes.
 #[inline(never)]
 pub(crate) fn on_prepare_range<M: Machine>(
-    server: &Server<M>,
+    server: &Roles<M>,
     from: NodeId,
     range: PositionRange,
     ballot: Ballot,
@@ -81,7 +81,7 @@ pub(crate) fn on_prepare_range<M: Machine>(
 /// An `Accept` comes, with a right action.
 #[inline(always)]
 pub(crate) fn on_accept<M: Machine>(
-    server: &Server<M>,
+    server: &Roles<M>,
     header: &Header,
     action: &Action,
     plan: &mut Plan,

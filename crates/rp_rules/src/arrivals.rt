@@ -10,12 +10,12 @@ ghost use Rattle.rp_rules.specs.Plans.{MayCommit};
 use rp_base::{Action, TaskId};
 use rp_machine::Machine;
 use rp_model::{Dropped, Plan, RightAction};
-use rp_server::Server;
+use rp_server::Roles;
 
 /// The node notes an occurrence of an interrupt's source, 1 to 8 and from 1: it becomes pending
 /// unless it or a higher one counted, and is dropped if 32 items are pending.
 pub(crate) fn on_interrupt<M: Machine>(
-    server: &Server<M>,
+    server: &Roles<M>,
     source: u8,
     occurrence: u32,
     plan: &mut Plan,
@@ -35,7 +35,7 @@ pub(crate) fn on_interrupt<M: Machine>(
 
 /// The node notes a tick of the clock: it becomes pending, and is dropped if 32 items are
 /// pending.
-pub(crate) fn on_tick<M: Machine>(server: &Server<M>, now: u32, plan: &mut Plan)
+pub(crate) fn on_tick<M: Machine>(server: &Roles<M>, now: u32, plan: &mut Plan)
     ensures plan { plan.new ≡ on_tick (running_server M.next M.answers server.now) now }
     ensures may { MayCommit server.now plan.new }
 {
@@ -44,7 +44,7 @@ pub(crate) fn on_tick<M: Machine>(server: &Server<M>, now: u32, plan: &mut Plan)
 
 /// A `Call` comes, with a right action.
 #[inline(always)]
-pub(crate) fn on_call<M: Machine>(server: &Server<M>, action: Action, plan: &mut Plan)
+pub(crate) fn on_call<M: Machine>(server: &Roles<M>, action: Action, plan: &mut Plan)
     requires right { IsRight action }
     ensures plan { plan.new ≡ on_call (running_server M.next M.answers server.now) action }
     ensures may { MayCommit server.now plan.new }
@@ -62,7 +62,7 @@ pub(crate) fn on_call<M: Machine>(server: &Server<M>, action: Action, plan: &mut
 /// A call comes of which no reply is kept.
 #[inline(always)]
 fn on_unanswered<M: Machine>(
-    server: &Server<M>,
+    server: &Roles<M>,
     task: TaskId,
     number: u32,
     call: Action,
@@ -82,7 +82,7 @@ fn on_unanswered<M: Machine>(
 
 /// An item becomes pending, unless it is a call that is, or 32 are.
 #[inline(always)]
-fn adds<M: Machine>(server: &Server<M>, item: RightAction, plan: &mut Plan)
+fn adds<M: Machine>(server: &Roles<M>, item: RightAction, plan: &mut Plan)
     ensures plan { plan.new ≡ adds_pending server.now.running.pending item }
     ensures may { MayCommit server.now plan.new }
 {

@@ -12,14 +12,14 @@ use crate::leader::on_lead_at;
 use rp_base::{Fault, Position};
 use rp_machine::Machine;
 use rp_model::Plan;
-use rp_server::Server;
+use rp_server::Roles;
 
 /// The command to lead at a position, or with none at the least position that is not learned and at
 /// which no proposal of this node runs but a prepared one. If the position is learned nothing
 /// happens. It is refused with `LogFull` above the log or 64 positions above the first unlearned
 /// one, with `BallotsSpent` if the node has no ballot left.
 pub(crate) fn on_lead<M: Machine>(
-    server: &Server<M>,
+    server: &Roles<M>,
     choice: Option<Position>,
     plan: &mut Plan,
 ) -> Result<(), Fault>
@@ -37,7 +37,7 @@ pub(crate) fn on_lead<M: Machine>(
 
 /// The position that the command names, or else the least free one, if that is within reach.
 #[inline(always)]
-fn position_to_lead<M: Machine>(server: &Server<M>, choice: Option<Position>) -> Option<Position>
+fn position_to_lead<M: Machine>(server: &Roles<M>, choice: Option<Position>) -> Option<Position>
     ensures some { IfSome result (λ position.
         plan_of (running_server M.next M.answers server.now) (inputs.NodeInput.Lead (Some position))
         ≡ plan_of (running_server M.next M.answers server.now) (inputs.NodeInput.Lead choice)) }

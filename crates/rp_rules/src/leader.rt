@@ -16,14 +16,14 @@ use rp_base::{Action, Fault, Position};
 use rp_machine::Machine;
 use rp_model::{CountedPromise, Dropped, Plan};
 use rp_proposer::Progress;
-use rp_server::Server;
+use rp_server::Roles;
 
 /// The command to lead at a position. If it is learned nothing happens, and a prepared proposal
 /// there offers its action. It is refused with `LogFull` above the log or 64 positions above the
 /// first unlearned one, with `BallotsSpent` if the node has no ballot left.
 #[inline(always)]
 pub(crate) fn on_lead_at<M: Machine>(
-    server: &Server<M>,
+    server: &Roles<M>,
     position: Position,
     plan: &mut Plan,
 ) -> Result<(), Fault>
@@ -53,7 +53,7 @@ pub(crate) fn on_lead_at<M: Machine>(
 /// What a prepared proposal at the position offers: the action of the highest vote that its
 /// promises report, or one of its own if they report none.
 fn prepared_action<M: Machine>(
-    server: &Server<M>,
+    server: &Roles<M>,
     position: Position,
     reported: Option<Action>,
 ) -> Action
@@ -69,7 +69,7 @@ fn prepared_action<M: Machine>(
 
 /// The command to lead at a position within reach at which nothing is learned or prepared.
 fn on_lead_unprepared<M: Machine>(
-    server: &Server<M>,
+    server: &Roles<M>,
     position: Position,
     plan: &mut Plan,
 ) -> Result<(), Fault>
@@ -94,7 +94,7 @@ fn on_lead_unprepared<M: Machine>(
 
 /// A `Promise` comes from one of the nodes, with a right vote.
 #[inline(always)]
-pub(crate) fn on_promise<M: Machine>(server: &Server<M>, promise: CountedPromise, plan: &mut Plan)
+pub(crate) fn on_promise<M: Machine>(server: &Roles<M>, promise: CountedPromise, plan: &mut Plan)
     requires may { MayCount server.now promise }
     ensures plan { plan.new ≡ on_promise (running_server M.next M.answers server.now) promise }
     ensures may { MayCommit server.now plan.new }

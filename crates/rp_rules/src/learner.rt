@@ -15,10 +15,10 @@ use rp_codec::Header;
 use rp_learner::VoteStatus;
 use rp_machine::Machine;
 use rp_model::{Dropped, Plan};
-use rp_server::Server;
+use rp_server::Roles;
 
 /// An `Ask` comes.
-pub(crate) fn on_ask<M: Machine>(server: &Server<M>, from: NodeId, position: Position) -> Plan
+pub(crate) fn on_ask<M: Machine>(server: &Roles<M>, from: NodeId, position: Position) -> Plan
     ensures plan { result ≡ on_ask (running_server M.next M.answers server.now) from position }
     ensures may { MayCommit server.now result }
 {
@@ -31,7 +31,7 @@ pub(crate) fn on_ask<M: Machine>(server: &Server<M>, from: NodeId, position: Pos
 /// An `Accepted` comes from one of the nodes, with a right action.
 #[inline(always)]
 pub(crate) fn on_accepted<M: Machine>(
-    server: &Server<M>,
+    server: &Roles<M>,
     header: &Header,
     action: &Action,
     plan: &mut Plan,
@@ -60,7 +60,7 @@ pub(crate) fn on_accepted<M: Machine>(
 /// A `Decided` comes, with a right action.
 #[inline(always)]
 pub(crate) fn on_decided<M: Machine>(
-    server: &Server<M>,
+    server: &Roles<M>,
     from: NodeId,
     position: Position,
     action: &Action,

@@ -18,12 +18,12 @@ use rp_base::{Ballot, Config, Fault, NodeId, PositionRange};
 use rp_codec::{Body, Header, Packet, Party};
 use rp_machine::Machine;
 use rp_model::{CountedPromise, CountedRange, Dropped, Plan};
-use rp_server::Server;
+use rp_server::Roles;
 
 /// A packet comes. Only a promise for a range takes memory: its votes are kept in the plan.
 #[inline(always)]
 pub(crate) fn on_packet<M: Machine>(
-    server: &Server<M>,
+    server: &Roles<M>,
     packet: &Packet,
     plan: &mut Plan,
 ) -> Result<(), Fault>
@@ -49,7 +49,7 @@ pub(crate) fn on_packet<M: Machine>(
 /// A packet comes from a node, for this one.
 #[inline(always)]
 fn on_node<M: Machine>(
-    server: &Server<M>,
+    server: &Roles<M>,
     from: NodeId,
     packet: &Packet,
     plan: &mut Plan,
@@ -138,7 +138,7 @@ fn on_node<M: Machine>(
 
 /// A packet comes from a task, for this node.
 #[inline(always)]
-fn on_task<M: Machine>(server: &Server<M>, packet: &Packet, plan: &mut Plan)
+fn on_task<M: Machine>(server: &Roles<M>, packet: &Packet, plan: &mut Plan)
     requires sender { ¬ IsNodeParty packet.now.from }
     ensures plan { plan.new ≡ on_body (running_server M.next M.answers server.now)
         (sender_number packet.now.from) packet.now.body }

@@ -14,13 +14,13 @@ ghost use Rattle.rp_rules.specs.Plans.{MayCommit};
 use rp_base::{Fault, PositionRange};
 use rp_machine::Machine;
 use rp_model::{Dropped, Plan};
-use rp_server::Server;
+use rp_server::Roles;
 
 /// The command to lead at all unlearned positions of a range. If all are learned nothing
 /// happens. It is refused with `LogFull` if one of its positions is above the log or 64
 /// positions above the first unlearned one, with `BallotsSpent` if the node has no ballot left.
 pub(crate) fn on_lead_range<M: Machine>(
-    server: &Server<M>,
+    server: &Roles<M>,
     range: PositionRange,
 ) -> Result<Plan, Fault>
     ensures ok { IfOk result (λ plan. Ok plan ≡ plan_of (running_server M.next M.answers server.now)
@@ -43,7 +43,7 @@ pub(crate) fn on_lead_range<M: Machine>(
 
 /// Whether a position of the range is above the log, or too far above the first unlearned one:
 /// then its last position is.
-fn is_range_out_of_reach<M: Machine>(server: &Server<M>, range: PositionRange) -> bool
+fn is_range_out_of_reach<M: Machine>(server: &Roles<M>, range: PositionRange) -> bool
     ensures out { result ≡ list_any
         (is_out_of_reach server.now.config.max_positions server.now.records)
         (positions_of range) }
@@ -53,7 +53,7 @@ fn is_range_out_of_reach<M: Machine>(server: &Server<M>, range: PositionRange) -
 }
 
 /// Whether an action is learned at each position of the range.
-fn is_all_learned<M: Machine>(server: &Server<M>, range: PositionRange) -> bool
+fn is_all_learned<M: Machine>(server: &Roles<M>, range: PositionRange) -> bool
     ensures { result ≡ nat_eq (length (unlearned_in server.now.records range)) 0 }
 {
     for index in 0..range.count() {

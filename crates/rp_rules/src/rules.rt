@@ -13,7 +13,7 @@ use crate::texts::on_text;
 use rp_base::Fault;
 use rp_machine::Machine;
 use rp_model::Plan;
-use rp_server::Server;
+use rp_server::Roles;
 use std::alloc::Global;
 
 /// What the step of an input does, or why there is no step: `BadPacket` if the bytes are no
@@ -22,7 +22,7 @@ use std::alloc::Global;
 /// server alone, and writes the plan to `plan`, so that none is copied.
 #[inline(always)]
 pub fn decide<M: Machine>(
-    server: &Server<M>,
+    server: &Roles<M>,
     alloc: Global,
     input: &Input,
     plan: &mut Plan,

@@ -32,7 +32,7 @@ use rp_codec::{
 };
 use rp_machine::Machine;
 use rp_model::{CountedPromise, Plan};
-use rp_server::Server;
+use rp_server::Roles;
 use std::alloc::Global;
 
 /// Handles a packet, given as its text: `BadPacket` if the bytes are no packet's, or `OutOfMemory`
@@ -40,7 +40,7 @@ use std::alloc::Global;
 /// the packet and the rule for it are compiled for that kind alone.
 #[inline(always)]
 pub fn on_text<M: Machine>(
-    server: &Server<M>,
+    server: &Roles<M>,
     alloc: Global,
     bytes: &[u8],
     plan: &mut Plan,
@@ -69,7 +69,7 @@ pub fn on_text<M: Machine>(
 /// Whether a packet between these nodes, for a position, is for this node and keeps to the
 /// configuration.
 #[inline(always)]
-fn takes<M: Machine>(server: &Server<M>, from: NodeId, to: NodeId, position: Position) -> bool
+fn takes<M: Machine>(server: &Roles<M>, from: NodeId, to: NodeId, position: Position) -> bool
     ensures { result ≡ (is_node server.now.me (Node to)
         && is_no_node_above server.now.config.nodes (Node from)
         && not (nat_lt server.now.config.max_positions position)) }
@@ -81,7 +81,7 @@ fn takes<M: Machine>(server: &Server<M>, from: NodeId, to: NodeId, position: Pos
 
 /// The same, for a packet in a ballot that its sender must own.
 #[inline(always)]
-fn takes_from_owner<M: Machine>(server: &Server<M>, header: &Header) -> bool
+fn takes_from_owner<M: Machine>(server: &Roles<M>, header: &Header) -> bool
     ensures { result ≡ is_for_node server.now.config server.now.me
         (says header.now.from (Prepare header.now.position header.now.ballot) header.now.to) }
 {
@@ -91,7 +91,7 @@ fn takes_from_owner<M: Machine>(server: &Server<M>, header: &Header) -> bool
 /// A packet comes that no function of a usual kind reads.
 #[inline(never)]
 fn on_other_text<M: Machine>(
-    server: &Server<M>,
+    server: &Roles<M>,
     alloc: Global,
     bytes: &[u8],
     plan: &mut Plan,
@@ -113,7 +113,7 @@ fn on_other_text<M: Machine>(
 
 /// The action of a task's call to this node, if these bytes are the text of one.
 #[inline(always)]
-pub fn call_for<M: Machine>(server: &Server<M>, bytes: &[u8]) -> Option<Action>
+pub fn call_for<M: Machine>(server: &Roles<M>, bytes: &[u8]) -> Option<Action>
     ensures right { IfSome result IsRight }
     ensures plan { IfSome result (λ action. IsPlanOf M.next M.answers server.now bytes.now
         (on_call (running_server M.next M.answers server.now) action)) }
@@ -129,7 +129,7 @@ pub fn call_for<M: Machine>(server: &Server<M>, bytes: &[u8]) -> Option<Action>
 /// The header of a prepare to this node, which keeps to the configuration, if these bytes are the
 /// text of one.
 #[inline(always)]
-pub fn prepare_for<M: Machine>(server: &Server<M>, bytes: &[u8]) -> Option<Header>
+pub fn prepare_for<M: Machine>(server: &Roles<M>, bytes: &[u8]) -> Option<Header>
     ensures place { IfSome result (λ header.
         header.position ≤ server.now.config.max_positions) }
     ensures plan { IfSome result (λ header. IsPlanOf M.next M.answers server.now bytes.now
@@ -146,7 +146,7 @@ pub fn prepare_for<M: Machine>(server: &Server<M>, bytes: &[u8]) -> Option<Heade
 
 /// The same of a promise that reports no vote.
 #[inline(always)]
-pub fn promise_for<M: Machine>(server: &Server<M>, bytes: &[u8]) -> Option<CountedPromise>
+pub fn promise_for<M: Machine>(server: &Roles<M>, bytes: &[u8]) -> Option<CountedPromise>
     ensures may { IfSome result (MayCount server.now) }
     ensures plan { IfSome result (λ promise. IsPlanOf M.next M.answers server.now bytes.now
         (on_promise (running_server M.next M.answers server.now) promise)) }
@@ -166,7 +166,7 @@ pub fn promise_for<M: Machine>(server: &Server<M>, bytes: &[u8]) -> Option<Count
 
 /// The same of an accept, whose action is a call, with that action.
 #[inline(always)]
-pub fn accept_for<M: Machine>(server: &Server<M>, bytes: &[u8]) -> Option<(Header, Action)>
+pub fn accept_for<M: Machine>(server: &Roles<M>, bytes: &[u8]) -> Option<(Header, Action)>
     ensures decoded { IfSome result (λ vote.
         IsDecoded bytes.now (Ok (accept_at vote.0 vote.1))) }
     ensures place { IfSome result (λ vote.
@@ -188,7 +188,7 @@ pub fn accept_for<M: Machine>(server: &Server<M>, bytes: &[u8]) -> Option<(Heade
 
 /// The same of a vote for a call, with that call.
 #[inline(always)]
-pub fn accepted_for<M: Machine>(server: &Server<M>, bytes: &[u8]) -> Option<(Header, Action)>
+pub fn accepted_for<M: Machine>(server: &Roles<M>, bytes: &[u8]) -> Option<(Header, Action)>
     ensures decoded { IfSome result (λ vote.
         IsDecoded bytes.now (Ok (accepted_at vote.0 vote.1))) }
     ensures sender { IfSome result (λ vote. vote.0.from ≤ server.now.config.nodes) }
@@ -211,7 +211,7 @@ pub fn accepted_for<M: Machine>(server: &Server<M>, bytes: &[u8]) -> Option<(Hea
 
 /// The same of a decided call.
 #[inline(always)]
-pub fn decided_for<M: Machine>(server: &Server<M>, bytes: &[u8]) -> Option<SentDecision>
+pub fn decided_for<M: Machine>(server: &Roles<M>, bytes: &[u8]) -> Option<SentDecision>
     ensures decoded { IfSome result (λ sent. IsDecoded bytes.now (Ok (decided_of sent))) }
     ensures place { IfSome result (λ sent.
         sent.position ≤ server.now.config.max_positions) }
@@ -230,7 +230,7 @@ pub fn decided_for<M: Machine>(server: &Server<M>, bytes: &[u8]) -> Option<SentD
 
 /// A task's call comes.
 #[inline(never)]
-fn on_call_text<M: Machine>(server: &Server<M>, bytes: &[u8], plan: &mut Plan) -> bool
+fn on_call_text<M: Machine>(server: &Roles<M>, bytes: &[u8], plan: &mut Plan) -> bool
     ensures { Decides M.next M.answers server.now bytes.now plan.old plan.new result }
 {
     let Some(action) = call_for(server, bytes) else {
@@ -242,7 +242,7 @@ fn on_call_text<M: Machine>(server: &Server<M>, bytes: &[u8], plan: &mut Plan) -
 
 /// A prepare comes.
 #[inline(never)]
-fn on_prepare_text<M: Machine>(server: &Server<M>, bytes: &[u8], plan: &mut Plan) -> bool
+fn on_prepare_text<M: Machine>(server: &Roles<M>, bytes: &[u8], plan: &mut Plan) -> bool
     ensures { Decides M.next M.answers server.now bytes.now plan.old plan.new result }
 {
     let Some(header) = prepare_for(server, bytes) else {
@@ -254,7 +254,7 @@ fn on_prepare_text<M: Machine>(server: &Server<M>, bytes: &[u8], plan: &mut Plan
 
 /// A promise comes that reports no vote.
 #[inline(never)]
-fn on_promise_text<M: Machine>(server: &Server<M>, bytes: &[u8], plan: &mut Plan) -> bool
+fn on_promise_text<M: Machine>(server: &Roles<M>, bytes: &[u8], plan: &mut Plan) -> bool
     ensures { Decides M.next M.answers server.now bytes.now plan.old plan.new result }
 {
     let Some(promise) = promise_for(server, bytes) else {
@@ -266,7 +266,7 @@ fn on_promise_text<M: Machine>(server: &Server<M>, bytes: &[u8], plan: &mut Plan
 
 /// An accept comes, whose action is a call.
 #[inline(never)]
-fn on_accept_text<M: Machine>(server: &Server<M>, bytes: &[u8], plan: &mut Plan) -> bool
+fn on_accept_text<M: Machine>(server: &Roles<M>, bytes: &[u8], plan: &mut Plan) -> bool
     ensures { Decides M.next M.answers server.now bytes.now plan.old plan.new result }
 {
     let Some((header, action)) = accept_for(server, bytes) else {
@@ -278,7 +278,7 @@ fn on_accept_text<M: Machine>(server: &Server<M>, bytes: &[u8], plan: &mut Plan)
 
 /// A vote for a call comes.
 #[inline(never)]
-fn on_accepted_text<M: Machine>(server: &Server<M>, bytes: &[u8], plan: &mut Plan) -> bool
+fn on_accepted_text<M: Machine>(server: &Roles<M>, bytes: &[u8], plan: &mut Plan) -> bool
     ensures { Decides M.next M.answers server.now bytes.now plan.old plan.new result }
 {
     let Some((header, action)) = accepted_for(server, bytes) else {
@@ -290,7 +290,7 @@ fn on_accepted_text<M: Machine>(server: &Server<M>, bytes: &[u8], plan: &mut Pla
 
 /// A decided call comes.
 #[inline(never)]
-fn on_decided_text<M: Machine>(server: &Server<M>, bytes: &[u8], plan: &mut Plan) -> bool
+fn on_decided_text<M: Machine>(server: &Roles<M>, bytes: &[u8], plan: &mut Plan) -> bool
     ensures { Decides M.next M.answers server.now bytes.now plan.old plan.new result }
 {
     let Some(sent) = decided_for(server, bytes) else {

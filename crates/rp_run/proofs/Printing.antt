@@ -16,7 +16,7 @@ use Rattle.rp_base.proofs.Members.{has_left, has_right, mapped_has, passes, set_
 use Rattle.rp_model.specs.rp_codec.specs.Message.{Message}
 use Rattle.rp_model.specs.rp_machine.specs.Calls.{CallName, calls_of, call_of}
 use Rattle.rp_model.specs.rp_machine.specs.Places.{IsPlace, HasReply}
-use Rattle.rp_model.specs.rp_machine.specs.Replay.{number_for, one_to, Replayed, unmoved, replay_of, replay_state, kept_of, replay_from}
+use Rattle.rp_model.specs.rp_machine.specs.Replay.{number_for, one_to, Replayed, unmoved, replay_of, replay_state, counted_of, replay_from}
 use Rattle.rp_model.specs.rp_machine.proofs.Calling.{one_to_bound}
 use Rattle.rp_model.specs.rp_machine.proofs.Placing.{one_of_image}
 use Rattle.rp_model.specs.rp_machine.proofs.Replaying.{replay_from-append, goes_on_from}
@@ -71,29 +71,29 @@ one_call sent t part made are a b one other same =
 
 module _ {S : Type 0} (next : S → Action → S) (answers : S → Action → List Answer) (begin : S) where
   -- what takes effect is among what counts
-  place_counts : (order : List Action) (call : CallName) (position : ℕ) (place : IsPlace next answers begin order call position) → Has place.action (kept_of next answers begin order)
+  place_counts : (order : List Action) (call : CallName) (position : ℕ) (place : IsPlace next answers begin order call position) → Has place.action (counted_of next answers begin order)
   place_counts order call position place =
       let r = replay_of next answers begin place.before in
       let onward = goes_on_from next answers (record { state = next r.state place.action; kept = r.kept ++ place.action ∷ []; given = r.given ++ answers r.state place.action }) place.following in
-      let same : kept_of next answers begin (place.before ++ place.action ∷ place.following) ≡ (r.kept ++ place.action ∷ []) ++ onward.further =
+      let same : counted_of next answers begin (place.before ++ place.action ∷ place.following) ≡ (r.kept ++ place.action ∷ []) ++ onward.further =
       ap (λ (all : Replayed S). all.kept) (replay_from-append next answers (unmoved begin) place.before (place.action ∷ place.following))
       ∙ ap (λ (b : Bool). (replay_from next answers (if b then record { state = next r.state place.action; kept = r.kept ++ place.action ∷ []; given = r.given ++ answers r.state place.action } else r) place.following).kept) place.takes_effect
       ∙ onward.kept in
-      subst (λ (l : List Action). Has place.action l) (sym (ap (kept_of next answers begin) place.occurs ∙ same))
+      subst (λ (l : List Action). Has place.action l) (sym (ap (counted_of next answers begin) place.occurs ∙ same))
       (has_left place.action (r.kept ++ place.action ∷ []) onward.further (has_right place.action r.kept (place.action ∷ []) (inl refl)))
 
   -- it is the one of that name among the calls that the task made
-  place_made : (sent : List Message) (order : List Action) (t n position : ℕ) (call : CallName) (part : TaskPart) (its : AreItsCalls sent t part (kept_of next answers begin order))
+  place_made : (sent : List Message) (order : List Action) (t n position : ℕ) (call : CallName) (part : TaskPart) (its : AreItsCalls sent t part (counted_of next answers begin order))
       → call ≡ named t n → (place : IsPlace next answers begin order call position) → (asked : Action) → Has asked its.made → calls_of asked ≡ named t n ∷ [] → place.action ≡ asked
   place_made sent order t n position call part its is place asked there name =
       let own : calls_of place.action ≡ named t n ∷ [] = place.is_call ∙ ap (λ (c : CallName). c ∷ []) is in
-      let counted = passes (λ (action : Action). is_some (number_for t action)) place.action (kept_of next answers begin order) (place_counts order call position place) (is_its_call t n place.action own) in
+      let counted = passes (λ (action : Action). is_some (number_for t action)) place.action (counted_of next answers begin order) (place_counts order call position place) (is_its_call t n place.action own) in
       one_call sent t part its.made its.are_made place.action asked (among place.action counted) there (own ∙ sym name)
     where
-      among : (action : Action) → Has action (calls_by t (kept_of next answers begin order)) → Has action its.made
+      among : (action : Action) → Has action (calls_by t (counted_of next answers begin order)) → Has action its.made
       among action h = elim its.all_but_last [
         | inl all ↦ subst (λ (l : List Action). Has action l) (sym all) h
-        | inr but_last ↦ subst (λ (l : List Action). Has action l) (sym but_last.2) (has_left action (calls_by t (kept_of next answers begin order)) (but_last.0 ∷ []) h)
+        | inr but_last ↦ subst (λ (l : List Action). Has action l) (sym but_last.2) (has_left action (calls_by t (counted_of next answers begin order)) (but_last.0 ∷ []) h)
       ]
 
 -- ---- what is printed

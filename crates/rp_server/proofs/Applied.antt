@@ -8,7 +8,7 @@ use Rattle.rp_base.specs.declared.reply.Answer.{Answer}
 use Rattle.rp_machine.specs.Asked.{last_number}
 use Rattle.rp_machine.specs.Replay.{replay_of}
 use Rattle.rp_model.specs.Arrivals.{adds_pending, on_numbered}
-use Rattle.rp_model.specs.Node.{RunningNode, kept_by}
+use Rattle.rp_model.specs.Node.{RunningNode, counted_by}
 use Rattle.rp_model.specs.declared.effect.Dropped.TheVariants.{No}
 use Rattle.rp_model.specs.declared.plan.Plan.TheVariants as plans
 use Rattle.rp_base.specs.declared.action.Action.{Action}
@@ -63,13 +63,13 @@ module _ {S : Type 0} (node : RunningNode S) (task number : ℕ) (call : Action)
   call_again stated reply is = sym (ap (on_numbered node task number call) is)
 
   -- one below the last that counted
-  pub call_past : (last : ℕ) → last ≡ last_number task (kept_by node) → number < last → plans.Pass No ≡ on_numbered node task number call None
+  pub call_past : (last : ℕ) → last ≡ last_number task (counted_by node) → number < last → plans.Pass No ≡ on_numbered node task number call None
   call_past last is below =
-      let lt : number < last_number task (kept_by node) = subst (λ (n : ℕ). number < n) is below in
-      sym (ap (λ (b : Bool). cond b (plans.Pass No) (adds_pending node.running.pending call)) (lt-ltb number (last_number task (kept_by node)) lt))
+      let lt : number < last_number task (counted_by node) = subst (λ (n : ℕ). number < n) is below in
+      sym (ap (λ (b : Bool). cond b (plans.Pass No) (adds_pending node.running.pending call)) (lt-ltb number (last_number task (counted_by node)) lt))
 
   -- another one
-  pub call_new : (last : ℕ) → last ≡ last_number task (kept_by node) → last ≤ number → adds_pending node.running.pending call ≡ on_numbered node task number call None
+  pub call_new : (last : ℕ) → last ≡ last_number task (counted_by node) → last ≤ number → adds_pending node.running.pending call ≡ on_numbered node task number call None
   call_new last is above =
-      let le : last_number task (kept_by node) ≤ number = subst (λ (n : ℕ). n ≤ number) is above in
-      sym (ap (λ (b : Bool). cond b (plans.Pass No) (adds_pending node.running.pending call)) (le-ltb number (last_number task (kept_by node)) le))
+      let le : last_number task (counted_by node) ≤ number = subst (λ (n : ℕ). n ≤ number) is above in
+      sym (ap (λ (b : Bool). cond b (plans.Pass No) (adds_pending node.running.pending call)) (le-ltb number (last_number task (counted_by node)) le))

@@ -25,7 +25,7 @@ use Rattle.rp_log.specs.Recorded.{LearnedAlike}
 use Rattle.rp_log.proofs.Places.{front_within}
 use Rattle.rp_log.proofs.RecordedRuns.{all_taken, learned_with, reserved_alike}
 use Rattle.rp_machine.specs.Numbered.{Applied, outcome}
-use Rattle.rp_machine.specs.Replay.{Replayed, replay_of, kept_of, replay_answers}
+use Rattle.rp_machine.specs.Replay.{Replayed, replay_of, counted_of, replay_answers}
 use Rattle.rp_model.specs.Pending.{stays, replies_to}
 use Rattle.rp_server.specs.Applying.{learns_alone, HasReplied}
 use Rattle.rp_outbox.specs.Packets.{Sending}
@@ -217,7 +217,7 @@ module _ {S : Type 0} (next : S → Action → S) (answers : S → Action → Li
   -- the pending items that stay
   pub stays_learned : (left newly : List Action) (before : ℕ) → before ≡ length learned.taken → newly ≡ drop before taken.taken
       → left ≡ filter (stays (outcome next answers applying).kept (outcome next answers applying).given newly) pending
-      → left ≡ filter (stays (kept_of next answers applied.begin (applied_of (records ++ Learned i v ∷ []))) (replay_answers next answers applied.begin (applied_of (records ++ Learned i v ∷ [])))
+      → left ≡ filter (stays (counted_of next answers applied.begin (applied_of (records ++ Learned i v ∷ []))) (replay_answers next answers applied.begin (applied_of (records ++ Learned i v ∷ [])))
       (drop (length (applied_of records)) (applied_of (records ++ Learned i v ∷ [])))) pending
   stays_learned left newly before count trailing kept =
       let long : before ≡ length (applied_of records) = count ∙ ap (λ (actions : List Action). length actions) (same_taken ∙ all_taken records log t.applies.learned t.applies.ordered t.applies.none) in
@@ -225,7 +225,7 @@ module _ {S : Type 0} (next : S → Action → S) (answers : S → Action → Li
       let which : newly ≡ drop (length (applied_of records)) (applied_of (records ++ Learned i v ∷ [])) = trailing ∙ ap (λ (n : ℕ). drop n taken.taken) long ∙ ap (drop (length (applied_of records))) all in
       kept
       ∙ ap (λ (r : Replayed S). filter (stays r.kept r.given newly) pending) is
-      ∙ ap (λ (list : List Action). filter (stays (kept_of next answers applied.begin (applied_of (records ++ Learned i v ∷ []))) (replay_answers next answers applied.begin (applied_of (records ++ Learned i v ∷ []))) list) pending) which
+      ∙ ap (λ (list : List Action). filter (stays (counted_of next answers applied.begin (applied_of (records ++ Learned i v ∷ []))) (replay_answers next answers applied.begin (applied_of (records ++ Learned i v ∷ []))) list) pending) which
 
   -- the replies
   pub replies_learned : said.sent ≡ out.sent ++ (replies_to me pending

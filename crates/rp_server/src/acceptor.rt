@@ -20,7 +20,7 @@ ghost use Rattle.rp_store.specs.Stored.{IsPut, IsNotPut};
 ghost use Rattle.rp_server.specs.Invariant.{IsAnswer, vote_record};
 ghost use Rattle.rp_server.specs.State.{server_after};
 
-use crate::server::Server;
+use crate::server::Roles;
 use rp_acceptor::{Acceptor, Comparison};
 use rp_base::{
     AcceptAnswer, Action, Ballot, PlacedVote, Position, PositionRange, PrepareAnswer, Rec, Vote,
@@ -30,7 +30,7 @@ use rp_machine::Machine;
 use rp_store::{Device, Store};
 use std::alloc::{AllocError, Global};
 
-impl<M: Machine> Server<M> {
+impl<M: Machine> Roles<M> {
     /// The bound at a position: the greatest ballot that it promised or voted in there.
     pub fn bound(&self, position: Position) -> Option<Ballot>
         ensures { number_of result ≡ bound_at self.now.records position }

@@ -2,21 +2,21 @@
 
 ghost use Rattle.std.specs.Prelude.{◌≡◌, ◌≤◌, ◌+◌, length};
 ghost use Rattle.rp_base.specs.Records.{applied_of};
-ghost use Rattle.rp_machine.specs.Replay.{kept_of};
+ghost use Rattle.rp_machine.specs.Replay.{counted_of};
 ghost use Rattle.rp_model.specs.Pending.{is_free_item, most_pending};
 ghost use Rattle.rp_server.specs.Free.{free_items, has_uncounted};
 
-use crate::server::Server;
+use crate::server::Roles;
 use rp_machine::Machine;
 use rp_model::RightAction;
 
-impl<M: Machine> Server<M> {
+impl<M: Machine> Roles<M> {
     /// How many pending items are free: they did not count yet, and no proposal that runs has one of
     /// them as its own action. A call that waits at a closed entry counted. It looks at 32 items and
     /// 64 proposals at most.
     pub fn free_pending(&self) -> usize
         ensures value { result ≡ length (free_items
-            (kept_of M.next M.answers self.now.begin (applied_of self.now.records))
+            (counted_of M.next M.answers self.now.begin (applied_of self.now.records))
             self.now.running.proposals self.now.running.pending) }
         ensures within { result ≤ most_pending }
     {
@@ -30,7 +30,7 @@ impl<M: Machine> Server<M> {
     /// How many of these items are free.
     fn count_free(&self, items: &[RightAction]) -> usize
         ensures value { result ≡ length (free_items
-            (kept_of M.next M.answers self.now.begin (applied_of self.now.records))
+            (counted_of M.next M.answers self.now.begin (applied_of self.now.records))
             self.now.running.proposals items.now) }
         ensures within { result ≤ length items.now }
     {
@@ -43,7 +43,7 @@ impl<M: Machine> Server<M> {
     /// Whether the item did not count yet, and its equal is the own action of no proposal.
     fn is_unproposed(&self, item: RightAction) -> bool
         ensures { result ≡ is_free_item
-            (kept_of M.next M.answers self.now.begin (applied_of self.now.records))
+            (counted_of M.next M.answers self.now.begin (applied_of self.now.records))
             self.now.running.proposals item }
     {
         !self.proposer.is_own(&item.get()) && self.is_ahead(item)
@@ -53,7 +53,7 @@ impl<M: Machine> Server<M> {
     /// action.
     pub fn has_uncounted(&self) -> bool
         ensures { result ≡ has_uncounted
-            (kept_of M.next M.answers self.now.begin (applied_of self.now.records))
+            (counted_of M.next M.answers self.now.begin (applied_of self.now.records))
             self.now.running.pending }
     {
         let (front, back) = self.pending.as_slices();
@@ -63,7 +63,7 @@ impl<M: Machine> Server<M> {
     /// Whether one of these items did not count yet.
     fn is_any_ahead(&self, items: &[RightAction]) -> bool
         ensures { result ≡ has_uncounted
-            (kept_of M.next M.answers self.now.begin (applied_of self.now.records)) items.now }
+            (counted_of M.next M.answers self.now.begin (applied_of self.now.records)) items.now }
     {
         items.iter().any(|item| self.is_ahead(*item))
     }

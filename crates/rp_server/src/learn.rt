@@ -16,7 +16,7 @@ ghost use Rattle.rp_server.specs.State.{server_after};
 
 use crate::acceptor::{write, write_text};
 use crate::apply::apply_and_reply;
-use crate::server::Server;
+use crate::server::Roles;
 use crate::window::follow;
 use rp_acceptor::Acceptor;
 use rp_base::{Action, NodeId, Position, Rec, WriteFault};
@@ -35,7 +35,7 @@ pub struct Decision {
     pub tail: Option<DecisionTail>,
 }
 
-impl<M: Machine> Server<M> {
+impl<M: Machine> Roles<M> {
     /// Learns an action at a position of the log: it is written, the other nodes are informed if
     /// this one informs them, all that is ready then is applied, and each answer whose call is
     /// pending is replied to. After the write it takes no memory.

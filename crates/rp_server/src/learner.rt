@@ -14,14 +14,14 @@ ghost use Rattle.rp_model.specs.Says.{notes};
 ghost use Rattle.rp_server.specs.State.{server_after};
 ghost use Rattle.rp_server.specs.Status.{status_of};
 
-use crate::server::Server;
+use crate::server::Roles;
 use rp_base::{Action, Ballot, NodeId, Position, Vote, WriteFault};
 use rp_learner::VoteStatus;
 use rp_machine::Machine;
 use rp_model::RightAction;
 use std::alloc::Global;
 
-impl<M: Machine> Server<M> {
+impl<M: Machine> Roles<M> {
     /// What holds at a position of the log once a vote of one of the nodes is counted.
     #[inline(always)]
     pub fn status(

@@ -34,4 +34,4 @@ mod window;
 pub use acceptor::record_in_range;
 pub use laws::the_least_free_position_is_least;
 pub use learn::Decision;
-pub use server::Server;
+pub use server::Roles;

@@ -3,21 +3,21 @@
 ghost use Rattle.std.specs.Prelude.{◌≡◌, find, option_copied};
 ghost use Rattle.rp_base.specs.Proposals.{without_proposal};
 ghost use Rattle.rp_base.specs.Records.{applied_of};
-ghost use Rattle.rp_machine.specs.Replay.{kept_of};
+ghost use Rattle.rp_machine.specs.Replay.{counted_of};
 ghost use Rattle.rp_model.specs.Pending.{is_ahead, is_free_item, own_action};
 
-use crate::server::Server;
+use crate::server::Roles;
 use rp_base::{Action, Position};
 use rp_machine::Machine;
 use rp_model::RightAction;
 
-impl<M: Machine> Server<M> {
+impl<M: Machine> Roles<M> {
     /// What a proposal at the position takes as its own action: the first pending item that is
     /// free, else nothing. It looks at 32 items and 64 proposals at most.
     #[inline(always)]
     pub fn own_action(&self, position: Position) -> RightAction
         ensures { result ≡ own_action
-            (kept_of M.next M.answers self.now.begin (applied_of self.now.records))
+            (counted_of M.next M.answers self.now.begin (applied_of self.now.records))
             (without_proposal self.now.running.proposals position) self.now.running.pending }
     {
         let (front, back) = self.pending.as_slices();
@@ -38,7 +38,7 @@ impl<M: Machine> Server<M> {
         items: &'a [RightAction],
     ) -> Option<&'a RightAction>
         ensures { option_copied result ≡ find (is_free_item
-            (kept_of M.next M.answers self.now.begin (applied_of self.now.records))
+            (counted_of M.next M.answers self.now.begin (applied_of self.now.records))
             (without_proposal self.now.running.proposals position)) items.now }
     {
         for item in items {
@@ -54,7 +54,7 @@ impl<M: Machine> Server<M> {
     #[inline(always)]
     fn is_free(&self, position: Position, item: RightAction) -> bool
         ensures { result ≡ is_free_item
-            (kept_of M.next M.answers self.now.begin (applied_of self.now.records))
+            (counted_of M.next M.answers self.now.begin (applied_of self.now.records))
             (without_proposal self.now.running.proposals position) item }
     {
         !self.proposer.is_own_elsewhere(position, &item.get()) && self.is_ahead(item)
@@ -63,7 +63,7 @@ impl<M: Machine> Server<M> {
     /// Whether the item did not count yet, and none above it did.
     pub(crate) fn is_ahead(&self, item: RightAction) -> bool
         ensures { result ≡ is_ahead
-            (kept_of M.next M.answers self.now.begin (applied_of self.now.records)) item }
+            (counted_of M.next M.answers self.now.begin (applied_of self.now.records)) item }
     {
         match item.get() {
             Action::Noop => false,

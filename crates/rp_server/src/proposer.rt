@@ -23,7 +23,7 @@ ghost use Rattle.rp_model.specs.Plans.{promised_running, started_running, offere
 ghost use Rattle.rp_server.specs.State.{server_after};
 
 use crate::acceptor::write;
-use crate::server::Server;
+use crate::server::Roles;
 use crate::window::{position_at, with_bit};
 use rp_base::{
     Action, Ballot, NodeId, PlacedVote, Position, PositionRange, Rec, Vote, WINDOW, WriteFault,
@@ -32,7 +32,7 @@ use rp_machine::Machine;
 use rp_proposer::Progress;
 use rp_store::{Device, Store};
 
-impl<M: Machine> Server<M> {
+impl<M: Machine> Roles<M> {
     /// Whether the position is above the log, or too far above the first unlearned one.
     pub fn is_out_of_reach(&self, position: Position) -> bool
         ensures { result

@@ -5,14 +5,14 @@ ghost use Rattle.rp_base.specs.Action.{IsRight};
 ghost use Rattle.rp_base.specs.Records.{applied_of};
 ghost use Rattle.rp_model.specs.rp_codec.specs.Message.{report_len};
 
-use crate::server::Server;
+use crate::server::Roles;
 use rp_base::{Action, Position};
 use rp_codec::report_len;
 use rp_log::Log;
 use rp_machine::Machine;
 use std::alloc::{AllocError, Global};
 
-impl<M: Machine> Server<M> {
+impl<M: Machine> Roles<M> {
     /// The actions applied at the positions from `first` on, as many as a report has. It copies
     /// what is reported and no more.
     pub fn reported(&self, alloc: Global, first: Position) -> Result<Vec<Action>, AllocError>

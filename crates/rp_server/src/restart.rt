@@ -12,7 +12,7 @@ ghost use Rattle.rp_server.specs.Invariant.{IsLearner, AllInLog};
 use crate::apply::apply_ready;
 use crate::heard::Heard;
 use crate::pending::Pending;
-use crate::server::Server;
+use crate::server::Roles;
 use crate::window::follow;
 use rp_acceptor::Acceptor;
 use rp_base::{Config, Fault, NodeId, Rec};
@@ -22,7 +22,7 @@ use rp_machine::{Machine, Numbered};
 use rp_proposer::Proposer;
 use std::alloc::Global;
 
-impl<M: Machine> Server<M> {
+impl<M: Machine> Roles<M> {
     /// A server of a node that begins by these records, all of them within the log. Nothing is
     /// proposed, heard or pending. Refused with `OutOfMemory` alone.
     pub fn restart(
@@ -31,7 +31,7 @@ impl<M: Machine> Server<M> {
         config: Config,
         program: &M::Program,
         records: &[Rec],
-    ) -> Result<Server<M>, Fault>
+    ) -> Result<Roles<M>, Fault>
         requires config { IsRightConfig config }
         requires node { node ≤ config.nodes }
         requires within { AllInLog config.max_positions records.now }
@@ -53,7 +53,7 @@ impl<M: Machine> Server<M> {
         let mut log = log_of(alloc, records)?;
         apply_ready(&mut machine, &mut log);
         follow(&mut learner, &log);
-        Ok(Server {
+        Ok(Roles {
             me: node,
             config,
             acceptor,

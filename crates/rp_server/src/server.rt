@@ -8,7 +8,7 @@ ghost use Rattle.rp_base.specs.Config.{IsRightConfig};
 ghost use Rattle.rp_base.specs.Records.{applied_of};
 ghost use Rattle.rp_base.specs.Right.{IsRightRecord};
 ghost use Rattle.rp_machine.specs.Asked.{last_number, last_occurrence, kept_reply};
-ghost use Rattle.rp_machine.specs.Replay.{kept_of, replay_answers, replay_state};
+ghost use Rattle.rp_machine.specs.Replay.{counted_of, replay_answers, replay_state};
 ghost use Rattle.rp_model.specs.Pending.{most_pending, is_same_call};
 
 use crate::heard::Heard;
@@ -30,7 +30,7 @@ use std::marker::Model;
 ///
 /// To a contract it is its node, the configuration and the machine's start, its records, and what
 /// it knows while it runs.
-pub struct Server<M: Machine> {
+pub struct Roles<M: Machine> {
     pub(crate) me: NodeId,
     pub(crate) config: Config,
     pub(crate) acceptor: Acceptor,
@@ -43,9 +43,9 @@ pub struct Server<M: Machine> {
 }
 
 // Not derived, so that to drop it is one step of a proof and not one for each of its parts.
-impl<M: Machine> Drop for Server<M> {
+impl<M: Machine> Drop for Roles<M> {
     fn drop(self) {
-        let Server {
+        let Roles {
             me: _,
             config: _,
             acceptor: _,
@@ -59,7 +59,7 @@ impl<M: Machine> Drop for Server<M> {
     }
 }
 
-impl<M: Machine> Model for Server<M> {
+impl<M: Machine> Model for Roles<M> {
     ghost use Rattle.rp_server.specs.State.{ServerState};
     ghost use Rattle.rp_server.specs.Invariant.{IsServer};
 
@@ -82,7 +82,7 @@ impl<M: Machine> Model for Server<M> {
         s.log s.machine };
 }
 
-impl<M: Machine> Server<M> {
+impl<M: Machine> Roles<M> {
     /// Its node.
     #[inline(always)]
     pub fn me(&self) -> NodeId
@@ -153,7 +153,7 @@ impl<M: Machine> Server<M> {
     pub fn last_occurrence(&self, source: u8) -> u32
         requires { IsIndex source }
         ensures { result ≡ last_occurrence source
-            (kept_of M.next M.answers self.now.begin (applied_of self.now.records)) }
+            (counted_of M.next M.answers self.now.begin (applied_of self.now.records)) }
     {
         self.machine.last_occurrence(source)
     }
@@ -161,7 +161,7 @@ impl<M: Machine> Server<M> {
     /// The number of the task's last call that counted, 0 if none did.
     pub fn last_number(&self, task: TaskId) -> u32
         ensures { result ≡ last_number task
-            (kept_of M.next M.answers self.now.begin (applied_of self.now.records)) }
+            (counted_of M.next M.answers self.now.begin (applied_of self.now.records)) }
     {
         self.machine.last(task)
     }
@@ -169,7 +169,7 @@ impl<M: Machine> Server<M> {
     /// The reply that is kept for a call.
     pub fn kept_reply(&self, task: TaskId, number: u32) -> Option<Reply>
         ensures { let applied = applied_of self.now.records in result ≡ kept_reply task number
-            (kept_of M.next M.answers self.now.begin applied)
+            (counted_of M.next M.answers self.now.begin applied)
             (replay_answers M.next M.answers self.now.begin applied) }
     {
         self.machine.kept(task, number)

@@ -9,13 +9,13 @@ ghost use Rattle.rp_log.specs.Contents.{action_at, next_to_take};
 ghost use Rattle.rp_model.specs.Learner.{window_of};
 ghost use Rattle.rp_server.specs.Invariant.{IsSettledAlike, Follows};
 
-use crate::server::Server;
+use crate::server::Roles;
 use rp_base::{Position, PositionRange, WINDOW};
 use rp_learner::Learner;
 use rp_log::Log;
 use rp_machine::Machine;
 
-impl<M: Machine> Server<M> {
+impl<M: Machine> Roles<M> {
     /// The positions of its window: 64 from the first unlearned one on, or as many as the log has
     /// there. There is none once every position is applied.
     pub fn window(&self) -> Option<PositionRange>

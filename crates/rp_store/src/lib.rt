@@ -9,6 +9,7 @@
 //! - `reading`: the records that bytes begin with
 //! - `store`: the store of a node's records
 //! - `laws`: what a stop inside a call leaves
+//! - `openings`: a record that was put is read again, and one that was torn is whole or gone
 #![tactic(auto)]
 
 mod count;
@@ -16,6 +17,7 @@ mod device;
 mod failing;
 mod laws;
 mod memory;
+mod openings;
 mod reading;
 mod store;
 
@@ -24,4 +26,5 @@ pub use device::{CutDevice, Device, InfallibleDevice};
 pub use failing::{DeviceCall, FailDevice};
 pub use laws::{one_reading, stop_inside_open, stop_inside_put};
 pub use memory::MemDevice;
+pub use openings::{what_is_put_is_read_again, what_is_torn_is_cut_off};
 pub use store::{NotTorn, Opened, Store};

@@ -38,8 +38,8 @@ use Rattle.rp_replica.specs.rp_machine.specs.contracts.numbered.Numbered.TheInsi
 use Rattle.rp_replica.specs.rp_store.specs.declared.device.Device as device
 use Rattle.rp_replica.specs.rp_store.specs.contracts.store.Store as Store
 use Rattle.rp_replica.specs.rp_store.specs.contracts.store.Store.TheInside as store
-use Rattle.rp_replica.specs.rp_server.specs.contracts.server.Server as Server
-use Rattle.rp_replica.specs.rp_server.specs.contracts.server.Server.TheInside as server
+use Rattle.rp_replica.specs.rp_server.specs.contracts.server.Roles as Roles
+use Rattle.rp_replica.specs.rp_server.specs.contracts.server.Roles.TheInside as server
 use Rattle.rp_replica.specs.contracts.replica.Replica as Replica
 use Rattle.rp_replica.specs.contracts.replica.Replica.TheInside as replica
 use Rattle.rp_tasks.specs.contracts.line.FaultLine as FaultLine
@@ -110,7 +110,7 @@ server_inside M P m s =
     recorded_send (server.the_field M P m).row _ _ (server.the_type M P m).to_one (struct_send (shape (server.the_type M P m))
     (search (crosses, sendable), (search (crosses, sendable), (search (crosses, sendable, history_send) depth 40 fits 20000, (search (crosses, sendable, history_send) depth 60 fits 40000, (learner_send, (search (crosses, sendable, history_send) depth 40 fits 20000, (search (crosses, maps.crosses, sendable) depth 40 fits 20000, (numbered_send M P m s, (search (crosses, sendable, cells.the_send, deed.the_send) depth 40, tt))))))))))
 
-server_send : (M P : RattleType) (m : machine.Ghosts M.Denot P.Denot) → IsSend M → IsSend (Server.the_row M P m)
+server_send : (M P : RattleType) (m : machine.Ghosts M.Denot P.Denot) → IsSend M → IsSend (Roles.the_row M P m)
 server_send M P m s = let i = server_inside M P m s in search (sendable, i)
 
 replica_inside : (M D P : RattleType) (m : machine.Ghosts M.Denot P.Denot) (d : device.Ghosts D.Denot) → IsSend M → IsSend D → IsSend (replica.the_row M D P m d)

@@ -3,7 +3,7 @@
 ghost use Rattle.std.specs.Prelude.{◌≡◌, pos, true, false, None, List, [], ◌∷◌};
 ghost use Rattle.rp_manual.specs.rp_base.specs.declared.action.Action.TheVariants.{Noop, Interrupt, Tick};
 ghost use Rattle.rp_manual.specs.rp_base.specs.declared.reply.Reply.TheVariants.{Value};
-ghost use Rattle.rp_manual.specs.rp_machine.specs.Replay.{kept_of};
+ghost use Rattle.rp_manual.specs.rp_machine.specs.Replay.{counted_of};
 ghost use Rattle.rp_manual.specs.rp_object.specs.State.{first_state};
 ghost use Rattle.rp_manual.specs.rp_object.specs.Step.{objects_next, objects_answers};
 ghost use Rattle.rp_worked.specs.Memory.{Unread};
@@ -43,7 +43,7 @@ pub fn occurrences_and_ticks_count()
         → LeadTo (box unread) (Interrupt 1 1 ∷ Interrupt 1 3 ∷ [])
         [] (box_is unread (pos 2) None None 0) }
     ensures counts { (unread : Unread)
-        → kept_of objects_next objects_answers (first_state (box unread))
+        → counted_of objects_next objects_answers (first_state (box unread))
         (Noop ∷ Interrupt 1 5 ∷ Interrupt 2 1 ∷ Tick 7 ∷ Noop ∷ Tick 7 ∷ [])
         ≡ Interrupt 1 5 ∷ Interrupt 2 1 ∷ Tick 7 ∷ Tick 7 ∷ [] }
 {}

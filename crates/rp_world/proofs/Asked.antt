@@ -12,12 +12,12 @@ use Rattle.rp_replica.specs.State.{ReplicaState, server_of}
 use Rattle.rp_replica.specs.rp_server.specs.State.{ServerState}
 use Rattle.rp_actors.specs.Nodes.{Member, RunsAs, Represents, stored_length}
 use Rattle.rp_actors.specs.Steps.{IsRunningQueryAnswer, IsReplicaOf, IsRunningServerOf, IsServerOf, IsStored}
-use Rattle.rp_actors.specs.declared.node.Node.{Node}
+use Rattle.rp_actors.specs.declared.node.ClusterNode.{ClusterNode}
 use Rattle.rp_actors.proofs.Fields.{Fields, as_seen, member}
 use Rattle.rp_actors.proofs.Moving.{part, is_here, represents_now}
 use Rattle.rp_actors.proofs.Placing.{Found}
 
-module _ {S D P : Type 0} (disk : D → Disk) (member : Member S) (n : Node S D P) (part : NodePart) (represents : Represents disk member n part) where
+module _ {S D P : Type 0} (disk : D → Disk) (member : Member S) (n : ClusterNode S D P) (part : NodePart) (represents : Represents disk member n part) where
   abbrev Describes : Bor (ReplicaState S) → List Rec → Type 0
   Describes replica records = (replica.now.begin ≡ member.begin) × (replica.now.records ≡ records)
 

@@ -27,7 +27,7 @@ use Rattle.rp_store.specs.Disk.{Disk}
 use Rattle.rp_world.specs.Choosing.{AreNodesOf, IsOf, IsOfNone, IsStepRefused}
 use Rattle.rp_actors.specs.Nodes.{Represents, member_of}
 use Rattle.rp_actors.specs.Shape.{part_by}
-use Rattle.rp_actors.specs.declared.node.Node.{Node as OneNode}
+use Rattle.rp_actors.specs.declared.node.ClusterNode.{ClusterNode}
 use Rattle.rp_actors.proofs.Fields.{Fields, IsKept, as_seen, world}
 use Rattle.rp_actors.proofs.Hearing.{cut_by_none, cut_heard, heard_record, heard_stepping}
 use Rattle.rp_actors.proofs.Moving.{no_node, part_here, represents_here}
@@ -125,7 +125,7 @@ module _ {S : Type 0} (s : Setting S) (w : World) (number : ℕ) where
 -- ---- the nodes of a world
 
 -- the nodes as they lie in memory are those of their world
-pub nodes_of : {S D P : Type 0} (f : Fields S D P) {lent : List (OneNode S D P)} → lent ≡ f.nodes → AreNodesOf f.disk (f.start f.program) lent (world f)
+pub nodes_of : {S D P : Type 0} (f : Fields S D P) {lent : List (ClusterNode S D P)} → lent ≡ f.nodes → AreNodesOf f.disk (f.start f.program) lent (world f)
 nodes_of f same = record {
   config = f.config;
   tasks = f.tasks;
@@ -134,10 +134,10 @@ nodes_of f same = record {
 }
 
 -- and of the world that the caller saw
-pub nodes_seen : {S D P : Type 0} (f : Fields S D P) {lent : List (OneNode S D P)} → lent ≡ f.nodes → AreNodesOf f.disk (f.start f.was.setup.program) lent f.was.world
+pub nodes_seen : {S D P : Type 0} (f : Fields S D P) {lent : List (ClusterNode S D P)} → lent ≡ f.nodes → AreNodesOf f.disk (f.start f.was.setup.program) lent f.was.world
 nodes_seen f {lent = lent} same = as_seen f (λ v. AreNodesOf f.disk (f.start v.setup.program) lent v.world) (nodes_of f same)
 
-module _ {S D P : Type 0} (disk : D → Disk) (begin : S) (nodes : List (OneNode S D P)) (w : World) (are : AreNodesOf disk begin nodes w) where
+module _ {S D P : Type 0} (disk : D → Disk) (begin : S) (nodes : List (ClusterNode S D P)) (w : World) (are : AreNodesOf disk begin nodes w) where
   pub as_many : length w.nodes ≡ length nodes
   as_many = ap length are.parts ∙ length-map nodes (part_by disk are.config.max_positions)
 

@@ -14,7 +14,7 @@ use Rattle.rp_model.specs.Parts.{NodePart, Running as Known}
 use Rattle.rp_model.specs.World.{World, Transition, part_at, with_part, node_done, node_done_if, stops, restarts}
 use Rattle.rp_replica.specs.rp_rules.specs.declared.input.Input.{Input}
 use Rattle.rp_replica.specs.rp_rules.specs.Inputs.{given_by}
-use Rattle.rp_actors.specs.declared.node.Node.{Node}
+use Rattle.rp_actors.specs.declared.node.ClusterNode.{ClusterNode}
 use Rattle.rp_actors.specs.Failures.{RisesAt}
 use Rattle.rp_actors.specs.Going.{Meant, Goes, Answers, AnswersRestart, IsRefusedWhole}
 use Rattle.rp_actors.specs.Nodes.{Member, Represents, HasNotFailed, GoesBy, RefusedBy, IsCutBy, IsLeftTorn, IsNotStarted, IsResting, NotTaken, DescribesNothing, DescribesOpened, failures_in, node_step}
@@ -51,7 +51,7 @@ ok_is : (one other : Done NodePart) → (let a : Result (Done NodePart) Fault = 
 ok_is one other same = cc
 
 -- the node was left so, for some part
-abbrev pub Left : {S D P : Type 0} → (D → Disk) → Member S → Node S D P → Type 0
+abbrev pub Left : {S D P : Type 0} → (D → Disk) → Member S → ClusterNode S D P → Type 0
 Left disk member new = (after : NodePart) × Represents disk member new after
 
 -- there is no node of this number
@@ -79,10 +79,10 @@ module _ {S D P : Type 0} (f : Fields S D P) (change : Changed f.nodes) where
 
   -- all nodes are still of this cluster
   pub still : Left f.disk here change.new → IsKept f change.after f.tasks
-  still left = subst (λ (ns : List (Node S D P)). IsKept f ns f.tasks) (sym change.put) (still_nodes f change.at change.new left.0 left.1)
+  still left = subst (λ (ns : List (ClusterNode S D P)). IsKept f ns f.tasks) (sym change.put) (still_nodes f change.at change.new left.0 left.1)
 
   to_put : (Q : ClusterState P → Type 0) → Q (cluster_with f (slice_set f.nodes change.at.place change.new) f.tasks f.messages) → Q after
-  to_put Q q = subst (λ (ns : List (Node S D P)). Q (cluster_with f ns f.tasks f.messages)) (sym change.put) q
+  to_put Q q = subst (λ (ns : List (ClusterNode S D P)). Q (cluster_with f ns f.tasks f.messages)) (sym change.put) q
 
   -- its device has not failed
   abbrev HasNotFailedHere : Type 0

@@ -18,7 +18,7 @@ use Rattle.rp_actors.specs.Going.{Meant, meant_by, step_meant, Goes, Answers, st
 use Rattle.rp_actors.specs.Nodes.{Member, Represents, GoesBy, IsLight, NotTaken, DescribesSending, node_step}
 use Rattle.rp_actors.specs.Deliveries.{only_sent}
 use Rattle.rp_actors.specs.Steps.{IsLightStep, ClusterState}
-use Rattle.rp_actors.specs.declared.node.Node.{Node}
+use Rattle.rp_actors.specs.declared.node.ClusterNode.{ClusterNode}
 use Rattle.rp_world.proofs.Ending.{none_here}
 use Rattle.rp_actors.proofs.Fields.{Fields, IsKept, as_seen, cluster_with, first_seen, member, now, sent_seen, setting, setting_by, world}
 use Rattle.rp_actors.proofs.Hearing.{nothing_goes, heard_by_audit, heard_by_none, heard_resting, heard_as, heard_running, heard_stepping, heard_record}
@@ -38,7 +38,7 @@ counted_from f dropped later {count = count} first_is count_is is =
 
 -- ---- a node that is given an input
 
-module _ {S D P : Type 0} (f : Fields S D P) (at : Found f.nodes) (new : Node S D P) (input : NodeInput) where
+module _ {S D P : Type 0} (f : Fields S D P) (at : Found f.nodes) (new : ClusterNode S D P) (input : NodeInput) where
   abbrev after : Sending → ClusterState P
   after later = cluster_with f (slice_set f.nodes at.place new) f.tasks later
 
@@ -86,12 +86,12 @@ goes_aside f {number = number} m =
     (nothing_goes f (heard f number (now f)).whole (now f) (only_sent (world f) (world f)) (heard_by_audit (setting f) (world f) m) refl (only_sent_none (world f) (world f) refl))
 
 -- there is no node of this number
-pub goes_past : {S D P : Type 0} (f : Fields S D P) {number i me : ℕ} → SentTo f.messages.sent number (Party.Node me) → suc i ≡ me → length f.nodes ≤ i
+pub goes_past : {S D P : Type 0} (f : Fields S D P) {number i me : ℕ} → SentTo f.messages.sent number (Party.ClusterNode me) → suc i ≡ me → length f.nodes ≤ i
     → Goes f.was (heard f number f.was).whole (now f) (only_sent f.was.world (now f).world)
 goes_past f {number = number} m placed past = nothing_heard f number (now f) (heard_by_none (setting f) (world f) m (none_here f placed past)) refl
 
-module _ {S D P : Type 0} (f : Fields S D P) (at : Found f.nodes) {number : ℕ} (m : SentTo f.messages.sent number (Party.Node at.me)) where
-  abbrev with_node : Node S D P → Sending → ClusterState P
+module _ {S D P : Type 0} (f : Fields S D P) (at : Found f.nodes) {number : ℕ} (m : SentTo f.messages.sent number (Party.ClusterNode at.me)) where
+  abbrev with_node : ClusterNode S D P → Sending → ClusterState P
   with_node new later = cluster_with f (slice_set f.nodes at.place new) f.tasks later
 
   abbrev input : NodeInput
@@ -130,7 +130,7 @@ module _ {S D P : Type 0} (f : Fields S D P) (at : Found f.nodes) {number : ℕ}
         light.short (subst (λ (o : Option Message). IsSomeAnd o (λ p. IsLongBody p.body)) (sym found) long)
 
   -- it takes the message
-  module _ (new : Node S D P) (dropped : Dropped) (later : Sending)
+  module _ (new : ClusterNode S D P) (dropped : Dropped) (later : Sending)
       (by : (member : Member S) (packet : Message) → slice_get f.messages.sent (number - 1) ≡ Some packet
       → GoesBy f.disk member at.it new (node_step f.next f.answers member (NodeInput.Receive packet)) (DescribesSending f.messages.sent later.sent) dropped) where
     pub still_heard : IsKept f (slice_set f.nodes at.place new) f.tasks
@@ -144,7 +144,7 @@ module _ {S D P : Type 0} (f : Fields S D P) (at : Found f.nodes) {number : ℕ}
         (turned f at new input dropped later (by (member f at.me) m.packet (at_place m)) (taken f at new input (now f)) (given_is f at new input) effect (counted_from f dropped later first_is count_is is)))
 
   -- the same, where it dropped nothing
-  module _ (new : Node S D P) (later : Sending)
+  module _ (new : ClusterNode S D P) (later : Sending)
       (by : (member : Member S) (packet : Message) → slice_get f.messages.sent (number - 1) ≡ Some packet
       → GoesBy f.disk member at.it new (node_step f.next f.answers member (NodeInput.Receive packet)) (DescribesSending f.messages.sent later.sent) No) where
     pub goes_only_sending : Runs → Goes f.was (heard f number f.was).whole (with_node new later) (only_sent f.was.world (with_node new later).world)
@@ -155,7 +155,7 @@ module _ {S D P : Type 0} (f : Fields S D P) (at : Found f.nodes) {number : ℕ}
         (turned f at new input No later (by (member f at.me) m.packet (at_place m)) (taken f at new input (now f)) (given_is f at new input) (only_sent (world f) after) (only_sent_more (world f) after)))
 
   -- or does not
-  module _ (new : Node S D P) (fault : Fault)
+  module _ (new : ClusterNode S D P) (fault : Fault)
       (by : (member : Member S) (packet : Message) → slice_get f.messages.sent (number - 1) ≡ Some packet → NotTaken f.disk member at.it new (node_step f.next f.answers member (NodeInput.Receive packet)) fault) where
     pub still_unheard : IsKept f (slice_set f.nodes at.place new) f.tasks
     still_unheard = still_refused f at new input fault (by (member f at.me) m.packet (at_place m))

@@ -10,7 +10,7 @@ use Rattle.rp_base.specs.declared.reply.Answer.{Answer}
 use Rattle.rp_codec.specs.Message.{Message}
 use Rattle.rp_model.specs.rp_machine.specs.Calls.{CallName}
 use Rattle.rp_model.specs.rp_machine.specs.Places.{IsPlace, HasReply}
-use Rattle.rp_model.specs.rp_machine.specs.Replay.{replay_of, kept_of}
+use Rattle.rp_model.specs.rp_machine.specs.Replay.{replay_of, counted_of}
 use Rattle.rp_model.specs.Answers.{untorn, IsLeft, FailsBy, Steps}
 use Rattle.rp_model.specs.declared.effect.Effect.{Effect}
 use Rattle.rp_model.specs.Effect.{Setting}
@@ -134,7 +134,7 @@ module _ {S : Type 0} (s : Setting S)
     (begins : (n : ℕ) (node : ℕ → NodePart) (sent : List Message) → IsSound n node sent → (order : List Action) → IsOrder n sent order → (x : ℕ) → IsPrefix (applied_of (node x).records) order)
     (describes : (node : ℕ → NodePart) (task : ℕ → TaskPart) (sent : List Message) → IsKept s node task sent → (t k : ℕ) (answer : Answer) → slice_get (task t).replies k ≡ Some answer
     → HasReply s.next s.answers s.begin (order_of s.config.nodes sent) (named t (suc k)) answer)
-    (counted : (node : ℕ → NodePart) (task : ℕ → TaskPart) (sent : List Message) → IsKept s node task sent → (t : ℕ) → AreItsCalls sent t (task t) (kept_of s.next s.answers s.begin (order_of s.config.nodes sent)))
+    (counted : (node : ℕ → NodePart) (task : ℕ → TaskPart) (sent : List Message) → IsKept s node task sent → (t : ℕ) → AreItsCalls sent t (task t) (counted_of s.next s.answers s.begin (order_of s.config.nodes sent)))
     (only : (node : ℕ → NodePart) (task : ℕ → TaskPart) (sent : List Message) → IsKept s node task sent → (t n place : ℕ) → IsPlace s.next s.answers s.begin (order_of s.config.nodes sent) (named t n) place
     → (1 ≤ n) × (n ≤ calls_so_far (task t)))
     (once : (actions : List Action) (call : CallName) (one other : ℕ) → IsPlace s.next s.answers s.begin actions call one → IsPlace s.next s.answers s.begin actions call other → one ≡ other) where
@@ -170,7 +170,7 @@ module _ {S : Type 0} (s : Setting S)
             subst (λ (a : NodePart). IsPrefix (applied_of a.records) order) (ap (λ (o : Option NodePart). unwrap_or o fresh_node) p)
             (begins nodes (node_in w.nodes) w.sent kept.kept.sound order (exists nodes w.sent) x);
         calls = λ t part p.
-            subst (λ (a : TaskPart). AreItsCalls w.sent t a (kept_of s.next s.answers s.begin order)) (seated w t part p)
+            subst (λ (a : TaskPart). AreItsCalls w.sent t a (counted_of s.next s.answers s.begin order)) (seated w t part p)
             (counted (node_in w.nodes) (task_in w.tasks) w.sent kept.kept t);
         replies = replied;
         once = λ t k part p. placed order t k part (λ answer. replied t k part answer p) (nat_lt k (length part.replies)) refl;

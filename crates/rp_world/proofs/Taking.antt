@@ -8,7 +8,7 @@ use Rattle.rp_model.specs.Effect.{Done, NodeInput}
 use Rattle.rp_model.specs.Parts.{NodePart}
 use Rattle.rp_model.specs.World.{World, part_at, commanded, node_chosen, chosen_effect, chosen_cut, chosen_record, node_done, node_done_if}
 use Rattle.rp_replica.specs.rp_outbox.specs.Packets.{Sending}
-use Rattle.rp_actors.specs.declared.node.Node.{Node}
+use Rattle.rp_actors.specs.declared.node.ClusterNode.{ClusterNode}
 use Rattle.rp_actors.specs.Going.{Meant, meant_by, Goes, Answers}
 use Rattle.rp_actors.specs.Nodes.{GoesBy, NotTaken, DescribesSending, node_step}
 use Rattle.rp_actors.specs.Steps.{ClusterState}
@@ -17,7 +17,7 @@ use Rattle.rp_actors.proofs.Moving.{IsEffect, part, is_here, represents_now, sti
 use Rattle.rp_actors.proofs.Placing.{Found}
 use Rattle.rp_actors.proofs.Reports.{describes_of, stated_sent, as_fault}
 
-module _ {S D P : Type 0} (f : Fields S D P) (at : Found f.nodes) (new : Node S D P) (input : NodeInput) where
+module _ {S D P : Type 0} (f : Fields S D P) (at : Found f.nodes) (new : ClusterNode S D P) (input : NodeInput) where
   abbrev w : World
   w = world f
 

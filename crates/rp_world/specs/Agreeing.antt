@@ -1,24 +1,17 @@
 -- What nodes have in common.
 use Rattle.std.specs.Prelude.{◌≡◌, ◌≤◌, ℕ, suc, Bool, true, false, nat_lt, Some, List, length}
-use Rattle.std.specs.Prelude.{slice_get, Option}
+use Rattle.std.specs.Prelude.{slice_get}
 use Rattle.rp_base.specs.Records.{applied_of}
-use Rattle.rp_base.specs.Sets.{Has}
 use Rattle.rp_base.specs.declared.action.Action.{Action}
-use Rattle.rp_base.specs.declared.record.Rec.{Rec}
-use Rattle.rp_base.specs.declared.record.Vote.{Vote}
 use Rattle.rp_base.specs.declared.reply.Answer.{Answer}
-use Rattle.rp_codec.specs.declared.packet.Body.{Body}
-use Rattle.rp_codec.specs.declared.packet.Body.TheVariants.{Prepare, Accept, PrepareRange}
 use Rattle.rp_model.specs.rp_machine.specs.Calls.{CallName}
 use Rattle.rp_model.specs.rp_machine.specs.Places.{IsPlace, IsOnlyPlace, HasReply}
-use Rattle.rp_model.specs.rp_machine.specs.Replay.{replay_of, replay_state, kept_of}
+use Rattle.rp_model.specs.rp_machine.specs.Replay.{replay_of, replay_state, counted_of}
 use Rattle.rp_model.specs.Facts.{IsOrder}
 use Rattle.rp_model.specs.World.{World, part_at}
 use Rattle.rp_model.specs.Parts.{NodePart}
 use Rattle.rp_model.specs.Parts.{TaskPart}
 use Rattle.rp_agreement.specs.Answered.{named, calls_so_far, AreItsCalls}
-use Rattle.rp_agreement.specs.Justified.{HasPromiseRecord}
-use Rattle.rp_agreement.specs.Justified.{Reports}
 use Rattle.rp_agreement.specs.Order.{IsPrefix, AreAlike}
 
 -- a node now and one later
@@ -30,28 +23,6 @@ EachTwo now later P =
 -- they have applied equally many actions
 abbrev pub AreLevel : NodePart → NodePart → Type 0
 AreLevel one other = length (applied_of one.records) ≡ length (applied_of other.records)
-
--- the node of this number has written the record
-abbrev pub HasWritten : World → ℕ → Rec → Type 0
-HasWritten w x rec = (part : NodePart) × (part_at w.nodes x ≡ Some part) × Has rec part.records
-
--- the node of this number has written a promise of the ballot for the position, alone or for a
--- range
-abbrev pub HasWrittenPromise : World → ℕ → ℕ → ℕ → Type 0
-HasWrittenPromise w x i b =
-    (part : NodePart) × (part_at w.nodes x ≡ Some part) × HasPromiseRecord part.records i b
-
--- the records of the node of this number say so of its last vote at a position, below a ballot
-abbrev pub HasReported : World → ℕ → ℕ → ℕ → Option Vote → Type 0
-HasReported w x i b last =
-    (part : NodePart) × (part_at w.nodes x ≡ Some part) × Reports part.records i b last
-
--- the packet asks in this ballot: for promises, at a position or a range, or for votes
-abbrev pub AsksIn : ℕ → Body → Type 0
-AsksIn b (Prepare position ballot) = ballot ≡ b
-AsksIn b (PrepareRange range ballot) = ballot ≡ b
-AsksIn b (Accept position ballot action) = ballot ≡ b
-AsksIn b _ = ⊥
 
 -- Of what two nodes have applied, the one now and the other later, one is a prefix of the other;
 -- and if they have applied equally many actions they are in one state, with the same answers
@@ -90,7 +61,7 @@ module _ {S : Type 0} (next : S → Action → S) (answers : S → Action → Li
     pub applied : (x : ℕ) (part : NodePart) → part_at w.nodes x ≡ Some part
         → IsPrefix (applied_of part.records) order
     pub calls : (t : ℕ) (part : TaskPart) → part_at w.tasks t ≡ Some part
-        → AreItsCalls w.sent t part (kept_of next answers begin order)
+        → AreItsCalls w.sent t part (counted_of next answers begin order)
     pub replies : (t k : ℕ) (part : TaskPart) (answer : Answer) → part_at w.tasks t ≡ Some part
         → slice_get part.replies k ≡ Some answer
         → HasReply next answers begin order (named t (suc k)) answer

@@ -11,10 +11,10 @@ use Rattle.rp_replica.specs.rp_rules.specs.declared.input.Input.{Input}
 use Rattle.rp_store.specs.Disk.{Disk}
 use Rattle.rp_actors.specs.Callers.{Caller}
 use Rattle.rp_actors.specs.Shape.{IsWorld, part_by}
-use Rattle.rp_actors.specs.declared.node.Node.{Node}
+use Rattle.rp_actors.specs.declared.node.ClusterNode.{ClusterNode}
 
 -- the nodes are those of the world, in a cluster whose machine starts so
-pub record AreNodesOf {S D P : Type 0} (disk : D → Disk) (begin : S) (nodes : List (Node S D P))
+pub record AreNodesOf {S D P : Type 0} (disk : D → Disk) (begin : S) (nodes : List (ClusterNode S D P))
     (w : World)
     : Type 0 where
   pub config : Config

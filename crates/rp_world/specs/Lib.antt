@@ -1,5 +1,6 @@
 pub mod Runs
 pub mod Agreeing
+pub mod Written
 pub mod Choosing
 pub use Rattle.rp_actors
 pub use Rattle.rp_agreement

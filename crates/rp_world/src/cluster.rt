@@ -23,7 +23,8 @@ ghost use Rattle.rp_agreement.specs.Justified.{IsJustified};
 ghost use Rattle.rp_agreement.specs.Order.{AllSent, IsPrefix};
 ghost use Rattle.rp_agreement.specs.Asked.{Says};
 ghost use Rattle.rp_agreement.specs.Worlds.{node_in};
-ghost use Rattle.rp_world.specs.Agreeing.{Agree, AsksIn, HasReported, HasWritten, HasWrittenPromise, IsOrdered};
+ghost use Rattle.rp_world.specs.Agreeing.{Agree, IsOrdered};
+ghost use Rattle.rp_world.specs.Written.{AsksIn, HasReported, HasWritten, HasWrittenPromise};
 ghost use Rattle.rp_actors.specs.Deliveries.{delivery_answer};
 ghost use Rattle.rp_actors.specs.Failures.{SomeHasFailed};
 ghost use Rattle.rp_actors.specs.Going.{stated};
@@ -43,7 +44,7 @@ use rp_agreement::{
 use rp_base::{Action, Answer, Config, Fault, NodeId, TaskId};
 use rp_machine::{Machine, a_call_has_one_place};
 use rp_model::{Effect, Event, worlds_grow};
-use rp_server::Server;
+use rp_server::Roles;
 use rp_store::{CutDevice, InfallibleDevice};
 use std::alloc::Global;
 use std::marker::Model;
@@ -344,7 +345,7 @@ impl<M: Machine, D: CutDevice> Cluster<M, D> {
 
     /// The server of a node that runs, which answers what it promised and voted and what is pending.
     /// `NotRunning` where the node is stopped, `BadConfig` above the last node.
-    pub fn server(&self, node: NodeId) -> Result<&Server<M>, Fault>
+    pub fn server(&self, node: NodeId) -> Result<&Roles<M>, Fault>
         // claim: The server of a node that runs is returned: its configuration, its records, and
         //   what it knows
         ensures { IsServerOf self.now.setup.config result (part_at self.now.world.nodes node) }

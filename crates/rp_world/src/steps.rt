@@ -177,7 +177,7 @@ impl<M: Machine, D: CutDevice> World<M, D> {
     /// and as `range_for` if there is no range to lead at.
     fn step_to_cut<'a>(
         messages: &'a Outbox,
-        nodes: &[rp_actors::Node<M, D>],
+        nodes: &[rp_actors::ClusterNode<M, D>],
         step: Step,
     ) -> Result<(NodeId, Input<'a>), Fault>
         requires packets { (m : Message) → Has m messages.now.sent → IsPacket m }
@@ -221,7 +221,7 @@ impl<M: Machine, D: CutDevice> World<M, D> {
     /// `NotRunning` if the node is stopped; then `BadConfig` unless the count is 1 to 64, and
     /// `LogFull` if the last position would be above 65,535.
     fn range_for(
-        nodes: &[rp_actors::Node<M, D>],
+        nodes: &[rp_actors::ClusterNode<M, D>],
         node: NodeId,
         first: Position,
         count: u8,

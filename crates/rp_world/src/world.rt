@@ -14,12 +14,12 @@ ghost use Rattle.rp_base.specs.Records.{applied_of};
 ghost use Rattle.rp_model.specs.rp_machine.specs.Replay.{replay_state};
 
 use crate::steps::text_of_number;
-use rp_actors::{Node, Task};
+use rp_actors::{ClusterNode, Task};
 use rp_base::{Action, Answer, Config, Fault, NodeId, TaskId};
 use rp_machine::Machine;
 use rp_outbox::Outbox;
 use rp_replica::Replica;
-use rp_server::Server;
+use rp_server::Roles;
 use rp_store::{CutDevice, InfallibleDevice};
 use std::alloc::{AllocError, Global};
 use std::marker::Model;
@@ -28,7 +28,7 @@ use std::marker::Model;
 pub(crate) struct World<M: Machine, D: CutDevice> {
     pub(crate) config: Config,
     pub(crate) program: M::Program,
-    pub(crate) nodes: Vec<Node<M, D>>,
+    pub(crate) nodes: Vec<ClusterNode<M, D>>,
     pub(crate) tasks: Vec<Task>,
     pub(crate) messages: Outbox,
 }
@@ -70,7 +70,7 @@ fn opened<M: Machine, D: CutDevice>(
     config: Config,
     program: &M::Program,
     devices: Vec<D>,
-) -> Result<Vec<Node<M, D>>, Fault>
+) -> Result<Vec<ClusterNode<M, D>>, Fault>
     requires config { IsRightConfig config }
     requires count { length devices.items ≡ config.nodes }
     requires empty { All (λ device. (D.disk device).contents ≡ []) devices.items }
@@ -85,7 +85,7 @@ fn opened<M: Machine, D: CutDevice>(
     let mut nodes = Vec::new(alloc);
     for device in devices {
         let node = NodeId::new(nodes.len() as u8 + 1).unwrap();
-        nodes.push(Node::open(alloc, node, config, program, device)?)?;
+        nodes.push(ClusterNode::open(alloc, node, config, program, device)?)?;
     }
     Ok(nodes)
 }
@@ -104,9 +104,9 @@ fn fresh_tasks(alloc: Global) -> Result<Vec<Task>, AllocError>
 
 /// Puts a node back to its place, which it was taken from.
 pub(crate) fn put_back<M: Machine, D: CutDevice>(
-    nodes: &mut Vec<Node<M, D>>,
+    nodes: &mut Vec<ClusterNode<M, D>>,
     place: usize,
-    node: Node<M, D>,
+    node: ClusterNode<M, D>,
 )
     requires place { place ≤ vec_len nodes.old }
     requires room { vec_len nodes.old < vec_capacity nodes.old }
@@ -213,7 +213,7 @@ impl<M: Machine, D: CutDevice> World<M, D> {
 
     /// The server of a node that runs. `NotRunning` where it is stopped, `BadConfig` above the last
     /// node.
-    pub(crate) fn server(&self, node: NodeId) -> Result<&Server<M>, Fault>
+    pub(crate) fn server(&self, node: NodeId) -> Result<&Roles<M>, Fault>
         ensures { IsServerOf self.now.setup.config result (part_at self.now.world.nodes node) }
     {
         let Some(node) = self.nodes.get(usize::from(node.get()) - 1) else {
@@ -237,7 +237,7 @@ impl<M: Machine, D: CutDevice> World<M, D> {
 }
 
 /// None of these nodes' devices has failed, where such devices never do.
-fn none_failed<M: Machine, D: CutDevice + InfallibleDevice>(nodes: &[Node<M, D>])
+fn none_failed<M: Machine, D: CutDevice + InfallibleDevice>(nodes: &[ClusterNode<M, D>])
     ensures { (k : ℕ) → IfSome (slice_get nodes.now k) (λ node. failures_in D.disk node ≡ 0) }
 {
     for node in nodes {

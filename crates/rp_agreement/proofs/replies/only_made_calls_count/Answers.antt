@@ -1,5 +1,5 @@
 -- What counts of a task's calls is what it made.
-use Rattle.rp_machine.specs.Replay.{kept_of}
+use Rattle.rp_machine.specs.Replay.{counted_of}
 use Rattle.rp_agreement.specs.Answered.{named}
 use Rattle.rp_agreement.specs.Computed.{order_of}
 use Rattle.rp_agreement.proofs.OnlyMade.{place_kept, counted_made}
@@ -10,5 +10,5 @@ returns g c =
     let m = g.M.Machine in
     λ config program node task sent kept t n place at.
     let order = order_of config.nodes sent in
-    counted_made sent t (task t) (kept_of m.next m.answers (m.begin program) order) (c.calls_count_in_order.ensures config program node task sent kept t) n at.action at.is_call
+    counted_made sent t (task t) (counted_of m.next m.answers (m.begin program) order) (c.calls_count_in_order.ensures config program node task sent kept t) n at.action at.is_call
     (place_kept m.next m.answers (m.begin program) order (named t n) place at)

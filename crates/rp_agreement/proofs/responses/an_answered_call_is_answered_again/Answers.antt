@@ -5,7 +5,7 @@ use Rattle.rp_base.specs.declared.action.Action.{Action}
 use Rattle.rp_base.specs.declared.action.Action.TheVariants.{Call}
 use Rattle.rp_base.specs.declared.reply.Reply.{Reply as CallReply}
 use Rattle.rp_base.specs.Records.{applied_of}
-use Rattle.rp_machine.specs.Replay.{kept_of, replay_answers}
+use Rattle.rp_machine.specs.Replay.{counted_of, replay_answers}
 use Rattle.rp_model.specs.Arrivals.{on_numbered}
 use Rattle.rp_model.specs.Node.{running_node}
 use Rattle.rp_model.specs.Plans.{turn_of}
@@ -25,7 +25,7 @@ returns g c =
     λ config program me task number object operation arg records running answer right above is there last.
     let applied = applied_of records in
     let call : Action = Call task number object operation arg in
-    let kept = kept_of m.next m.answers (m.begin program) applied in
+    let kept = counted_of m.next m.answers (m.begin program) applied in
     let given = replay_answers m.next m.answers (m.begin program) applied in
     let stays = reply_is_kept task number kept given answer above last is there
     (λ other other_is other_there. c.a_call_has_one_answer.ensures program applied (named task number) other answer right (other_is, other_there) (is, there)) in

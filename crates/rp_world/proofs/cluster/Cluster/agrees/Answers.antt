@@ -13,7 +13,7 @@ use Rattle.rp_model.specs.Parts.{NodePart, fresh_node}
 use Rattle.rp_agreement.specs.Order.{IsPrefix}
 use Rattle.rp_agreement.specs.Sound.{IsSo}
 use Rattle.rp_agreement.specs.Worlds.{node_in}
-use Rattle.rp_world.specs.Agreeing.{AsksIn}
+use Rattle.rp_world.specs.Written.{AsksIn}
 use Rattle.rp_world.proofs.Sounding.{part_is_there, promiser_there}
 use Rattle.rp_world.proofs.cluster.Cluster.agrees.Goals as goal
 

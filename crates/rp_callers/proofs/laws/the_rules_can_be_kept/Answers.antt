@@ -1,9 +1,0 @@
-use Rattle.rp_callers.proofs.Buffer.{buffer, room}
-use Rattle.rp_callers.proofs.Kept.{answered, noted}
-use Rattle.rp_callers.proofs.laws.the_rules_can_be_kept.Goals as goal
-
-pub returns-clause-replies : goal.returns-clause-replies
-returns-clause-replies c = answered buffer room c.node_requests_are_read_back.ensures.steps c.task_requests_are_read_back.ensures
-
-pub returns-clause-interrupts : goal.returns-clause-interrupts
-returns-clause-interrupts c = noted buffer room c.node_requests_are_read_back.ensures.steps c.task_requests_are_read_back.ensures

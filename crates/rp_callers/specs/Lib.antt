@@ -1,2 +1,0 @@
-pub mod Breaches
-pub mod Kept

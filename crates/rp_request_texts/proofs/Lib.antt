@@ -1,4 +1,0 @@
-pub mod NodeTexts
-pub mod TaskTexts
-pub mod NoNodeTexts
-pub mod NoTaskTexts

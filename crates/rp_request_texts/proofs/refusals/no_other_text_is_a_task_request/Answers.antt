@@ -1,6 +1,0 @@
--- By the kind and the number of operands.
-use Rattle.rp_request_texts.proofs.NoTaskTexts.{empty_is, kinds, again, node, operation, argument}
-use Rattle.rp_request_texts.proofs.refusals.no_other_text_is_a_task_request.Goals as goal
-
-pub returns : goal.returns
-returns c = record { empty = empty_is; kinds = kinds; again = again; node = node; operation = operation; argument = argument }

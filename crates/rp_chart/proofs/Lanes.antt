@@ -3,8 +3,8 @@ use Rattle.std.proofs.Common.{◌≡◌, ℕ, ◌+◌, ◌<◌, List, [], ◌∷
 use Rattle.std.specs.Prelude.{String, string_bytes}
 use Rattle.std.proofs.lemmas.List.{length-map, length-append, map_more, map_push}
 use Rattle.std.proofs.lemmas.Option.{slice_get-get_or}
-use Rattle.rp_chart_run.specs.rp_drawing.specs.declared.drawing.Lane.{Lane}
-use Rattle.rp_chart_run.specs.rp_history.specs.Histories.{LaneText, lane_text}
+use Rattle.rp_drawing.specs.declared.drawing.Lane.{Lane}
+use Rattle.rp_history.specs.Histories.{LaneText, lane_text}
 use Rattle.rp_script.specs.rp_machine.specs.Replay.{one_to}
 use Rattle.rp_script.specs.rp_machine.proofs.Numbering.{length-one_to}
 use Rattle.rp_script.specs.rp_model.specs.World.{part_at}

@@ -7,17 +7,17 @@ use Rattle.rp_script.specs.indexmap.specs.IndexMap.{index_map_len}
 use Rattle.rp_chart.specs.declared.chart.ChartRequest.{ChartRequest}
 use Rattle.rp_chart.specs.declared.chart.Outcome.{Outcome}
 use Rattle.rp_chart.specs.declared.chart.Outcome.TheVariants.{Drawn, TooLong}
-use Rattle.rp_chart_run.specs.ScriptHistory.{DrawnRun, script_happens}
+use Rattle.rp_chart.specs.ScriptHistory.{DrawnRun, script_happens}
 use Rattle.rp_script.specs.rp_deck.specs.declared.deck.Deck.{Deck}
 use Rattle.rp_script.specs.rp_deck.specs.declared.deck.Mode.TheVariants.{Script}
 use Rattle.rp_script.specs.rp_deck_declarations.specs.declared.deck_program.DeckProgram.{DeckProgram}
 use Rattle.rp_script.specs.rp_deck_declarations.specs.declared.deck_program.DeckProgram.TheVariants.{Tally}
 use Rattle.rp_script.specs.rp_deck_declarations.specs.declared.deck_program.DeckProgram.TheVariants.{Objects}
-use Rattle.rp_chart_run.specs.rp_drawing.specs.Words.{fitted_text}
-use Rattle.rp_chart_run.specs.rp_history.specs.Histories.{LaneText}
-use Rattle.rp_chart_run.specs.rp_page.specs.Pages.{IsDrawnAs}
-use Rattle.rp_chart_run.specs.rp_history.specs.declared.stage.Stage.{Stage}
-use Rattle.rp_chart_run.specs.rp_history.specs.declared.view.View.{View}
+use Rattle.rp_drawing.specs.Words.{fitted_text}
+use Rattle.rp_history.specs.Histories.{LaneText}
+use Rattle.rp_history.specs.Pages.{IsDrawnAs}
+use Rattle.rp_history.specs.declared.stage.Stage.{Stage}
+use Rattle.rp_history.specs.declared.view.View.{View}
 use Rattle.rp_script.specs.rp_machine.specs.Replay.{one_to}
 use Rattle.rp_script.specs.rp_output.specs.Stream.{Begins}
 use Rattle.rp_script.specs.Given.{MeansDeck}

@@ -1,3 +1,8 @@
 pub mod Charts
-pub use Rattle.rp_chart_run.specs.rp_history
-pub use Rattle.rp_chart_run.specs.rp_page
+pub mod Causes
+pub mod Effects
+pub mod Prospects
+pub mod ScriptHistory
+pub mod ScriptCharts
+pub use Rattle.rp_history.specs.rp_drawing
+pub use Rattle.rp_history

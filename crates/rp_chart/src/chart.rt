@@ -3,20 +3,19 @@
 ghost use Rattle.std.specs.Prelude.{◌≡◌, ◌+◌, ◌≤◌, IfErr, IfOk, OnErr, map, option_map, string_bytes};
 ghost use Rattle.rp_chart.specs.Charts.{deck_lines, DrawingBegins, Draws, IsChartIfShort, lanes_of, node_lane, task_lane};
 ghost use Rattle.rp_script.specs.rp_deck.specs.Deck.{IsRightDeck};
-ghost use Rattle.rp_chart_run.specs.rp_history.specs.Histories.{lane_text};
+ghost use Rattle.rp_history.specs.Histories.{lane_text};
 ghost use Rattle.rp_script.specs.rp_output.specs.Trace.{task_name};
 ghost use Rattle.rp_script.specs.rp_run.specs.Output.{names_of};
 ghost use Rattle.rp_script.specs.Given.{FailsRun};
 
+use crate::{Scene, draw_lines};
 use indexmap::IndexMap;
 use rp_base::Fault;
-use rp_chart_run::{Scene, draw_lines};
 use rp_deck::{Deck, DeckProgram, Mode, Task, read_deck};
 use rp_drawing::{Lane, Words};
-use rp_history::{Stage, View};
+use rp_history::{Form, Stage, View};
 use rp_machine::Tally;
 use rp_object::Objects;
-use rp_page::Form;
 use rp_script::{DRAIN_LIMIT, RunOptions, read_whole, write_out, write_whole};
 use rp_store::MemDevice;
 use std::alloc::{AllocError, Global};

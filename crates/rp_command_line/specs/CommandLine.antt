@@ -13,7 +13,7 @@ use Rattle.rp_bind.specs.declared.lines.Language.TheVariants as languages
 use Rattle.rp_explore_run.specs.declared.answer.ExploreRequest.{ExploreRequest}
 use Rattle.rp_history.specs.declared.view.View.{View}
 use Rattle.rp_chart.specs.declared.chart.ChartRequest.{ChartRequest}
-use Rattle.rp_page.specs.declared.page.Form.TheVariants.{Drawing, Page}
+use Rattle.rp_history.specs.declared.page.Form.TheVariants.{Drawing, Page}
 use Rattle.rp_command_line.specs.declared.args.Args.{Args}
 use Rattle.rp_command_line.specs.declared.args.Args.TheVariants.{Script, Live, Chart, Explore, Bind}
 

@@ -11,8 +11,7 @@ use rp_base::Position;
 use rp_bind::Language;
 use rp_chart::ChartRequest;
 use rp_explore_run::ExploreRequest;
-use rp_history::View;
-use rp_page::Form;
+use rp_history::{Form, View};
 use std::alloc::{AllocError, Global};
 use std::convert::AsStr;
 

@@ -4,9 +4,9 @@ use Rattle.std.specs.List.{AllZip}
 use Rattle.rp_script.specs.rp_base.specs.declared.action.Action.{Action}
 use Rattle.rp_script.specs.rp_base.specs.declared.reply.Answer.{Answer}
 use Rattle.rp_explore.specs.Explored.{Exploration}
-use Rattle.rp_explore_rules.specs.rp_explore_deck.specs.declared.plan.Plan.{Plan}
-use Rattle.rp_explore_rules.specs.rp_explore_deck.specs.declared.rules.PlacedRule.{PlacedRule}
-use Rattle.rp_explore_rules.specs.rp_explore_deck.specs.declared.rules.Rule.{Rule}
+use Rattle.rp_explore_deck.specs.declared.plan.Plan.{Plan}
+use Rattle.rp_explore_deck.specs.declared.rules.PlacedRule.{PlacedRule}
+use Rattle.rp_explore_deck.specs.declared.rules.Rule.{Rule}
 use Rattle.rp_explore_run.specs.Answers.{ExploredDeck, IsAnswer}
 use Rattle.rp_explore_run.specs.Explores.{IsExploredAt, IsExploredFor, IsSearch, asked_deck, explored_plan, head_of}
 use Rattle.rp_explore_run.specs.Judging.{IsJudged}

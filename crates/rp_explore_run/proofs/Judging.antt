@@ -6,8 +6,8 @@ use Rattle.std.proofs.lemmas.List.{take_more}
 use Rattle.rp_script.specs.rp_base.specs.declared.action.Action.{Action}
 use Rattle.rp_script.specs.rp_base.specs.declared.reply.Answer.{Answer}
 use Rattle.rp_explore.specs.Explored.{Exploration}
-use Rattle.rp_explore_rules.specs.rp_explore_deck.specs.declared.rules.Rule.{Rule}
-use Rattle.rp_explore_rules.specs.rp_explore_deck.specs.declared.rules.Rule.TheVariants.{Never, Always, Finally, Free}
+use Rattle.rp_explore_deck.specs.declared.rules.Rule.{Rule}
+use Rattle.rp_explore_deck.specs.declared.rules.Rule.TheVariants.{Never, Always, Finally, Free}
 use Rattle.rp_explore_run.specs.Judging.{IsJudgedBy, free_broken_by, no_truths}
 
 pub zip_more : {A B : Type 0} (R : A → B → Type 0) (xs : List A) (ys now : List B) (place : ℕ) (x other : A) (y : B) → place < length xs → x ≡ get_or xs place other

@@ -3,3 +3,7 @@ pub mod Given
 pub mod Judging
 pub mod Exploring
 pub mod Failing
+pub mod Names
+pub mod Outcomes
+pub mod Heads
+pub mod Texts

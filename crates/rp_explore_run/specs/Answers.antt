@@ -4,10 +4,10 @@ use Rattle.std.specs.Prelude.{map, if◌then◌else◌}
 use Rattle.std.specs.List.{list_any}
 use Rattle.rp_script.specs.rp_base.specs.declared.action.Action.{Action}
 use Rattle.rp_script.specs.rp_base.specs.declared.reply.Answer.{Answer}
-use Rattle.rp_explore_rules.specs.rp_explore_deck.specs.declared.actions.PlannedAction.{PlannedAction}
+use Rattle.rp_explore_deck.specs.declared.actions.PlannedAction.{PlannedAction}
 use Rattle.rp_explore.specs.Explored.{Exploration}
-use Rattle.rp_explore_report.specs.Reports.{report_text_of}
-use Rattle.rp_explore_report.specs.declared.report.Report.{Report}
+use Rattle.rp_explore_run.specs.Reports.{report_text_of}
+use Rattle.rp_explore_run.specs.declared.report.Report.{Report}
 use Rattle.rp_explore_run.specs.Findings.{IsReportOf, found_of}
 use Rattle.rp_explore_run.specs.Shown.{IsShownBy}
 use Rattle.rp_explore_run.specs.Trials.{ShowsWhenRun}
@@ -19,7 +19,7 @@ use Rattle.rp_explore_run.specs.declared.findings.Judged.{Judged}
 use Rattle.rp_explore_run.specs.declared.shown.Searched.{Searched}
 use Rattle.rp_explore_run.specs.declared.shown.Shown.{Shown}
 use Rattle.rp_script.specs.rp_model.specs.World.{part_at}
-use Rattle.rp_order_deck.specs.OrderDecks.{order_deck_text}
+use Rattle.rp_explore_run.specs.OrderDecks.{order_deck_text}
 use Rattle.rp_script.specs.rp_run.specs.Output.{names_of}
 
 -- a rule is broken; or else whether the search is complete

@@ -20,9 +20,9 @@ use Rattle.rp_explore.specs.Explored.{Exploration, IsFirstGiver, IsFirstStuck, I
 use Rattle.rp_explore.specs.Explored.{greatest_length}
 use Rattle.rp_explore.specs.Listed.{AreDistinct, order_at}
 use Rattle.rp_explore.specs.declared.giver.Giver.{Giver}
-use Rattle.rp_explore_rules.specs.rp_explore_deck.specs.Plans.{plan_of, plan_text}
-use Rattle.rp_explore_rules.specs.rp_explore_deck.specs.declared.plan.Plan.{Plan}
-use Rattle.rp_explore_rules.specs.rp_explore_deck.specs.declared.rules.Rule.{Rule}
+use Rattle.rp_explore_deck.specs.Plans.{plan_of, plan_text}
+use Rattle.rp_explore_deck.specs.declared.plan.Plan.{Plan}
+use Rattle.rp_explore_deck.specs.declared.rules.Rule.{Rule}
 use Rattle.rp_explore_run.specs.Answers.{ExploredDeck, IsAnswer}
 use Rattle.rp_explore_run.specs.Judging.{IsJudged, keeps, no_truths}
 use Rattle.rp_explore_run.specs.declared.answer.ExploreRequest.{ExploreRequest}
@@ -34,7 +34,7 @@ use Rattle.rp_script.specs.rp_machine.specs.TallyRule.{tally_answers, tally_imag
 use Rattle.rp_script.specs.rp_object.specs.Image.{objects_image}
 use Rattle.rp_script.specs.rp_object.specs.State.{first_state}
 use Rattle.rp_script.specs.rp_object.specs.Step.{objects_answers, objects_next}
-use Rattle.rp_order_deck.specs.Wanted.{text_lines}
+use Rattle.rp_explore_run.specs.Wanted.{text_lines}
 use Rattle.rp_explore.specs.rp_orders.specs.Orders.{AreClosed, IsFinal, IsGiven}
 use Rattle.rp_explore.specs.rp_orders.specs.declared.guard.Guard.{Guard}
 use Rattle.rp_script.specs.rp_output.specs.Stream.{Begins}

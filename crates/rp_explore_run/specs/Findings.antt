@@ -5,9 +5,9 @@ use Rattle.rp_script.specs.rp_base.specs.declared.reply.Answer.{Answer}
 use Rattle.rp_explore.specs.Explored.{Exploration}
 use Rattle.rp_explore.specs.Listed.{order_at}
 use Rattle.rp_explore.specs.declared.giver.Giver.{Giver}
-use Rattle.rp_explore_report.specs.declared.lines.Outcome.{Outcome}
-use Rattle.rp_explore_report.specs.declared.lines.Outcome.TheVariants.{Reply, Waits, Broken}
-use Rattle.rp_explore_report.specs.declared.report.Report.{Report}
+use Rattle.rp_explore_run.specs.declared.report_lines.Outcome.{Outcome}
+use Rattle.rp_explore_run.specs.declared.report_lines.Outcome.TheVariants.{Reply, Waits, Broken}
+use Rattle.rp_explore_run.specs.declared.report.Report.{Report}
 use Rattle.rp_explore_run.specs.declared.findings.Found.{Found}
 use Rattle.rp_explore_run.specs.declared.findings.Judged.{Judged}
 use Rattle.rp_script.specs.rp_machine.specs.Asked.{last_number}

@@ -5,13 +5,13 @@ use Rattle.rp_script.specs.rp_base.specs.declared.action.Action.{Action}
 use Rattle.rp_script.specs.rp_base.specs.declared.reply.Answer.{Answer}
 use Rattle.rp_explore.specs.Explored.{Exploration}
 use Rattle.rp_explore.specs.Broken.{IsFirstBroken, IsNeverBroken, state_at}
-use Rattle.rp_explore_rules.specs.rp_explore_deck.specs.declared.rules.PlacedRule.{PlacedRule}
-use Rattle.rp_explore_rules.specs.rp_explore_deck.specs.declared.rules.Rule.{Rule}
-use Rattle.rp_explore_rules.specs.rp_explore_deck.specs.declared.rules.Rule.TheVariants.{Never}
-use Rattle.rp_explore_rules.specs.rp_explore_deck.specs.declared.rules.Rule.TheVariants.{Always}
-use Rattle.rp_explore_rules.specs.rp_explore_deck.specs.declared.rules.Rule.TheVariants.{Finally}
-use Rattle.rp_explore_rules.specs.rp_explore_deck.specs.declared.rules.Rule.TheVariants.{Free}
-use Rattle.rp_explore_rules.specs.Rules.{AreNotAllTrueIn, AreTrueIn}
+use Rattle.rp_explore_deck.specs.declared.rules.PlacedRule.{PlacedRule}
+use Rattle.rp_explore_deck.specs.declared.rules.Rule.{Rule}
+use Rattle.rp_explore_deck.specs.declared.rules.Rule.TheVariants.{Never}
+use Rattle.rp_explore_deck.specs.declared.rules.Rule.TheVariants.{Always}
+use Rattle.rp_explore_deck.specs.declared.rules.Rule.TheVariants.{Finally}
+use Rattle.rp_explore_deck.specs.declared.rules.Rule.TheVariants.{Free}
+use Rattle.rp_explore_run.specs.Rules.{AreNotAllTrueIn, AreTrueIn}
 use Rattle.rp_explore_run.specs.declared.findings.Judged.{Judged}
 use Rattle.rp_script.specs.rp_object.specs.State.{Running}
 

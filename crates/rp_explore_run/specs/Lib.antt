@@ -4,3 +4,8 @@ pub mod Trials
 pub mod Answers
 pub mod Judging
 pub mod Explores
+pub mod Rules
+pub mod Reports
+pub mod OrderDecks
+pub mod Wanted
+pub use Rattle.rp_explore_deck

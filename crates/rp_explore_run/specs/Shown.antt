@@ -6,13 +6,13 @@ use Rattle.rp_script.specs.rp_base.specs.declared.action.Action.TheVariants.{Noo
 use Rattle.rp_script.specs.rp_base.specs.declared.reply.Answer.{Answer}
 use Rattle.rp_explore.specs.Explored.{Exploration}
 use Rattle.rp_explore.specs.Listed.{order_at}
-use Rattle.rp_explore_report.specs.declared.lines.Outcome.{Outcome}
-use Rattle.rp_explore_report.specs.declared.lines.Outcome.TheVariants.{Reply, Waits, Broken}
+use Rattle.rp_explore_run.specs.declared.report_lines.Outcome.{Outcome}
+use Rattle.rp_explore_run.specs.declared.report_lines.Outcome.TheVariants.{Reply, Waits, Broken}
 use Rattle.rp_explore_run.specs.declared.findings.Found.{Found}
 use Rattle.rp_explore_run.specs.declared.shown.Shown.{Shown}
 use Rattle.rp_script.specs.rp_machine.specs.Replay.{replay_state}
-use Rattle.rp_order_deck.specs.declared.wanted.Wanted.{Wanted}
-use Rattle.rp_order_deck.specs.declared.wanted.Wanted.TheVariants.{Line, State}
+use Rattle.rp_explore_run.specs.declared.wanted.Wanted.{Wanted}
+use Rattle.rp_explore_run.specs.declared.wanted.Wanted.TheVariants.{Line, State}
 use Rattle.rp_script.specs.rp_output.specs.Printed.{reply_line_of}
 use Rattle.rp_script.specs.rp_output.specs.Trace.{task_name}
 

@@ -5,8 +5,8 @@ use Rattle.rp_script.specs.rp_deck.specs.DeckViews.{deck_text}
 use Rattle.rp_script.specs.rp_deck.specs.Meaning.{meaning_of}
 use Rattle.rp_script.specs.rp_deck.specs.declared.deck.Deck.{Deck}
 use Rattle.rp_script.specs.rp_deck.specs.declared.deck.Mode.TheVariants.{Script}
-use Rattle.rp_order_deck.specs.Wanted.{is_shown}
-use Rattle.rp_order_deck.specs.declared.wanted.Wanted.{Wanted}
+use Rattle.rp_explore_run.specs.Wanted.{is_shown}
+use Rattle.rp_explore_run.specs.declared.wanted.Wanted.{Wanted}
 use Rattle.rp_script.specs.Output.{output_of}
 
 -- the text means this deck, which is right

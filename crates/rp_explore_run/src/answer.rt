@@ -10,10 +10,9 @@ ghost use Rattle.rp_script.specs.rp_run.specs.Output.{names_of};
 use crate::findings::{Found, Judged, found_of, report_on};
 use crate::shown::{Searched, shown_by};
 use crate::trial::shows;
+use crate::{Source, order_deck, report_text};
 use rp_base::Fault;
-use rp_explore_report::report_text;
 use rp_machine::Machine;
-use rp_order_deck::{Source, order_deck};
 use std::alloc::{AllocError, Global};
 
 /// What a search is asked for.

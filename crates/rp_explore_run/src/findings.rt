@@ -6,9 +6,9 @@ ghost use Rattle.rp_script.specs.rp_machine.specs.Asked.{last_number};
 ghost use Rattle.rp_explore.specs.Listed.{order_at};
 ghost use Rattle.rp_explore_run.specs.Findings.{IsReportOf, broken_by, broken_of, found_of, given_of, held_by, held_of, waits_at, waits_of};
 
+use crate::{FiguresLine, Outcome, Report};
 use rp_base::{Action, MOST_TASKS, TaskId};
 use rp_explore::Explored;
-use rp_explore_report::{FiguresLine, Outcome, Report};
 use std::alloc::{AllocError, Global};
 
 /// A rule of the deck, by its line, and the place of the first order that breaks it, if one does.

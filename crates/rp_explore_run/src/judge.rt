@@ -8,9 +8,9 @@ ghost use Rattle.rp_script.specs.rp_object.specs.Step.{objects_answers, objects_
 ghost use Rattle.rp_explore_run.specs.Judging.{IsJudged, IsJudgedBy, free_broken_by, keeps, no_truths};
 
 use crate::findings::Judged;
+use crate::{AreNotAllTrue, AreTrue};
 use rp_explore::{Explored, first_broken};
 use rp_explore_deck::{PlacedRule, Rule};
-use rp_explore_rules::{AreNotAllTrue, AreTrue};
 use rp_machine::Machine;
 use rp_object::{Objects, Program};
 use std::alloc::{AllocError, Global};

@@ -8,13 +8,12 @@ ghost use Rattle.rp_script.specs.rp_run.specs.Output.{names_of};
 ghost use Rattle.rp_explore_run.specs.Shown.{IsShownBy, IsWanted, after_of};
 
 use crate::findings::{Found, order_at};
+use crate::{Outcome, Source, Wanted, task_name};
 use indexmap::IndexMap;
 use rp_base::{Action, Answers};
 use rp_deck::Task;
 use rp_explore::Explored;
-use rp_explore_report::{Outcome, task_name};
 use rp_machine::{Machine, Numbered};
-use rp_order_deck::{Source, Wanted};
 use rp_output::ReplyLine;
 use std::alloc::{AllocError, Global};
 

@@ -4,9 +4,9 @@ ghost use Rattle.std.specs.Prelude.{IfErr, IfOk, IfSome, IsTrue};
 ghost use Rattle.rp_script.specs.rp_output.specs.Faults.{IsRunFault};
 ghost use Rattle.rp_explore_run.specs.Trials.{IsDeckText, IsOutputOf, ShowsWhenRun};
 
+use crate::{Wanted, is_shown};
 use rp_base::Fault;
 use rp_deck::{Deck, Mode, read_deck};
-use rp_order_deck::{Wanted, is_shown};
 use rp_script::{MOST_BYTES, run_deck};
 use std::alloc::Global;
 

@@ -4,10 +4,10 @@ use Rattle.std.specs.Result.{IsErrAnd}
 use Rattle.std.specs.Arc.{arc_value}
 use Rattle.rp_requests.specs.rp_base.specs.Number.{IsNode}
 use Rattle.rp_requests.specs.rp_base.specs.declared.fault.Fault.TheVariants as faults
-use Rattle.rp_next_deck.specs.rp_deck.specs.declared.deck.Deck.{Deck}
-use Rattle.rp_next_deck.specs.rp_deck_declarations.specs.declared.deck_program.DeckProgram.TheVariants.{Objects}
-use Rattle.rp_next_deck.specs.rp_object.specs.State.{Running, first_state}
-use Rattle.rp_next_deck.specs.rp_object.specs.declared.program.Program.{Program}
+use Rattle.rp_deck.specs.declared.deck.Deck.{Deck}
+use Rattle.rp_deck_declarations.specs.declared.deck_program.DeckProgram.TheVariants.{Objects}
+use Rattle.rp_object.specs.State.{Running, first_state}
+use Rattle.rp_object.specs.declared.program.Program.{Program}
 use Rattle.rp_requests.specs.Nodes.{NodeState}
 use Rattle.rp_requests.specs.Opening.{IsOpenedNode}
 use Rattle.rp_requests.specs.declared.refusal.Refusal.{Refusal}

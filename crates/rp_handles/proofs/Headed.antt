@@ -1,10 +1,10 @@
 -- A device with a header, and why no node is opened over it.
 use Rattle.std.proofs.Common.{◌≡◌, ◌≤◌, ℕ, List, true, false, refl, subst}
 use Rattle.rp_requests.specs.rp_base.specs.Number.{IsNode}
-use Rattle.rp_next_deck.specs.rp_deck.specs.declared.deck.Deck.{Deck}
-use Rattle.rp_next_deck.specs.rp_deck_declarations.specs.declared.deck_program.DeckProgram.{DeckProgram}
-use Rattle.rp_next_deck.specs.rp_deck_declarations.specs.declared.deck_program.DeckProgram.TheVariants.{Objects, Tally}
-use Rattle.rp_next_deck.specs.rp_object.specs.declared.program.Program.{Program}
+use Rattle.rp_deck.specs.declared.deck.Deck.{Deck}
+use Rattle.rp_deck_declarations.specs.declared.deck_program.DeckProgram.{DeckProgram}
+use Rattle.rp_deck_declarations.specs.declared.deck_program.DeckProgram.TheVariants.{Objects, Tally}
+use Rattle.rp_object.specs.declared.program.Program.{Program}
 use Rattle.rp_requests.specs.declared.refusal.Refusal.{Refusal}
 use Rattle.rp_requests.specs.declared.refusal.Refusal.TheVariants as refusals
 use Rattle.rp_handles.specs.DeckNodes.{MeansDeck, OpensNoNode}

@@ -3,3 +3,4 @@ pub mod Handles
 mod Headed
 mod Places
 pub mod Values
+mod Putting

@@ -3,15 +3,15 @@ use Rattle.std.specs.Prelude.{◌≡◌, ◌≤◌, ℕ, Ok, Err, List}
 use Rattle.std.specs.Arc.{arc_value}
 use Rattle.rp_requests.specs.rp_base.specs.Number.{IsNode}
 use Rattle.rp_requests.specs.rp_base.specs.declared.fault.Fault.TheVariants as faults
-use Rattle.rp_next_deck.specs.rp_deck.specs.Deck.{IsRightDeck}
-use Rattle.rp_next_deck.specs.rp_deck.specs.DeckViews.{deck_text}
-use Rattle.rp_next_deck.specs.rp_deck.specs.Meaning.{meaning_of}
-use Rattle.rp_next_deck.specs.rp_deck.specs.declared.deck.Deck.{Deck}
-use Rattle.rp_next_deck.specs.rp_deck.specs.declared.deck.Mode.TheVariants.{Script}
-use Rattle.rp_next_deck.specs.rp_deck_declarations.specs.declared.deck_program.DeckProgram.TheVariants.{Objects}
-use Rattle.rp_next_deck.specs.rp_deck_declarations.specs.declared.deck_program.DeckProgram.TheVariants.{Tally}
-use Rattle.rp_next_deck.specs.rp_object.specs.State.{Running, first_state}
-use Rattle.rp_next_deck.specs.rp_object.specs.declared.program.Program.{Program}
+use Rattle.rp_deck.specs.Deck.{IsRightDeck}
+use Rattle.rp_deck.specs.DeckViews.{deck_text}
+use Rattle.rp_deck.specs.Meaning.{meaning_of}
+use Rattle.rp_deck.specs.declared.deck.Deck.{Deck}
+use Rattle.rp_deck.specs.declared.deck.Mode.TheVariants.{Script}
+use Rattle.rp_deck_declarations.specs.declared.deck_program.DeckProgram.TheVariants.{Objects}
+use Rattle.rp_deck_declarations.specs.declared.deck_program.DeckProgram.TheVariants.{Tally}
+use Rattle.rp_object.specs.State.{Running, first_state}
+use Rattle.rp_object.specs.declared.program.Program.{Program}
 use Rattle.rp_requests.specs.Nodes.{NodeState}
 use Rattle.rp_requests.specs.Opening.{IsOpenedNode}
 use Rattle.rp_requests.specs.declared.refusal.Refusal.{Refusal}

@@ -3,11 +3,11 @@ use Rattle.std.specs.Prelude.{◌≡◌, nat_eq, Bool, true, false, ℕ, Option,
 use Rattle.std.specs.List.{starts_with}
 use Rattle.std.specs.Int.{w16, to_be_bytes}
 use Rattle.rp_requests.specs.rp_base.specs.declared.config.Config.{Config}
-use Rattle.rp_next_deck.specs.rp_deck.specs.declared.deck.Deck.{Deck}
-use Rattle.rp_next_deck.specs.rp_deck_declarations.specs.declared.deck_program.DeckProgram.{DeckProgram}
-use Rattle.rp_next_deck.specs.rp_deck_declarations.specs.declared.deck_program.DeckProgram.TheVariants.{Objects}
-use Rattle.rp_next_deck.specs.rp_deck_declarations.specs.declared.deck_program.DeckProgram.TheVariants.{Tally}
-use Rattle.rp_next_deck.specs.rp_object.specs.declared.program.Program.{Program}
+use Rattle.rp_deck.specs.declared.deck.Deck.{Deck}
+use Rattle.rp_deck_declarations.specs.declared.deck_program.DeckProgram.{DeckProgram}
+use Rattle.rp_deck_declarations.specs.declared.deck_program.DeckProgram.TheVariants.{Objects}
+use Rattle.rp_deck_declarations.specs.declared.deck_program.DeckProgram.TheVariants.{Tally}
+use Rattle.rp_object.specs.declared.program.Program.{Program}
 use Rattle.rp_requests.specs.declared.refusal.Refusal.{Refusal}
 use Rattle.rp_requests.specs.declared.refusal.Refusal.TheVariants as refusals
 use Rattle.sha2.specs.Sha256.{sha256}

@@ -3,9 +3,9 @@ use Rattle.std.specs.Prelude.{◌≡◌, ◌==◌, if◌then◌else◌, ℕ, Opt
 use Rattle.std.specs.Prelude.{length}
 use Rattle.rp_requests.specs.rp_base.specs.declared.fault.Fault.TheVariants as faults
 use Rattle.rp_requests.specs.rp_base.specs.Number.{IsTask}
-use Rattle.rp_next_deck.specs.rp_object.specs.State.{Running}
-use Rattle.rp_next_deck.specs.rp_object.specs.Step.{objects_next, objects_answers}
-use Rattle.rp_next_deck.specs.rp_object.specs.Image.{objects_image}
+use Rattle.rp_object.specs.State.{Running}
+use Rattle.rp_object.specs.Step.{objects_next, objects_answers}
+use Rattle.rp_object.specs.Image.{objects_image}
 use Rattle.rp_requests.specs.rp_patience.specs.Advice.{advice_after, patience_after}
 use Rattle.rp_requests.specs.rp_patience.specs.declared.advice.Advice.{Advice}
 use Rattle.rp_requests.specs.rp_patience.specs.declared.patience.Patience.{Patience}

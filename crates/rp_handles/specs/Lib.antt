@@ -4,3 +4,8 @@ pub mod Devices
 pub mod Handles
 pub mod NextDecks
 pub mod Owning
+pub mod NextLines
+pub mod NextDeckTexts
+pub use Rattle.rp_deck
+pub use Rattle.rp_deck.specs.rp_deck_declarations
+pub use Rattle.rp_deck.specs.rp_object

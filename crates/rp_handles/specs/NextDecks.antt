@@ -4,10 +4,10 @@ use Rattle.std.specs.Prelude.{◌++◌}
 use Rattle.std.specs.declared.alloc.Global.{Global}
 use Rattle.hex.specs.Hex.{encode_lower}
 use Rattle.sha2.specs.Sha256.{sha256}
-use Rattle.rp_next_deck.specs.rp_object.specs.Image.{objects_image}
-use Rattle.rp_next_deck.specs.rp_object.specs.State.{Running}
-use Rattle.rp_next_deck.specs.rp_object.specs.Step.{objects_next, objects_answers}
-use Rattle.rp_next_deck.specs.NextDecks.{IsNextDeck}
+use Rattle.rp_object.specs.Image.{objects_image}
+use Rattle.rp_object.specs.State.{Running}
+use Rattle.rp_object.specs.Step.{objects_next, objects_answers}
+use Rattle.rp_handles.specs.NextDeckTexts.{IsNextDeck}
 use Rattle.rp_requests.specs.Nodes.{NodeState, image_of, positions_left}
 use Rattle.rp_handles.specs.DeclaredParts.{declared_part}
 use Rattle.rp_handles.specs.declared.actor.Actor.{Actor}

@@ -10,6 +10,9 @@
 //! - `declared`: the part of a deck's text that declares
 //! - `device`: the header of a device, which says whose it is
 //! - `next`: the deck with which a station goes on once the log of its node has ended
+//! - `shown_values`: what an image shows of a component, and of the clock
+//! - `next_lines`: the lines of a deck, each component with what an image shows as its first value
+//! - `next_text`: the next deck, which starts as the image says
 #![tactic(auto)]
 
 mod actor;
@@ -20,6 +23,9 @@ mod device;
 mod handle;
 mod loose;
 mod next;
+mod next_lines;
+mod next_text;
+mod shown_values;
 
 pub use actor::{Actor, ActorKind, LastStep};
 pub use calls::{
@@ -28,3 +34,4 @@ pub use calls::{
 pub use device::{HEADER_BYTES, device_header, open_device};
 pub use handle::Handle;
 pub use next::{NoNextDeck, next_deck_of};
+pub use next_text::next_deck;

@@ -6,8 +6,8 @@ ghost use Rattle.rp_handles.specs.NextDecks.{ActorGoesOn, GoesNotOn, GoesOn, Han
 use crate::actor::Actor;
 use crate::declared::declared_part;
 use crate::handle::{Handle, closed, into_box, of};
+use crate::next_deck;
 use rp_base::Fault;
-use rp_next_deck::next_deck;
 use rp_object::Objects;
 use rp_requests::HandleNode;
 use sha2::{Digest, Sha256};
@@ -28,7 +28,7 @@ pub enum NoNextDeck {
 const MOST_BYTES: usize = 1_048_576;
 
 /// The text of the deck with which a station goes on that runs this deck, by the node of a handle, whose
-/// log has ended: as `rp_next_deck::next_deck`, after a comment with the digest of this deck. `None` if
+/// log has ended: as `next_deck`, after a comment with the digest of this deck. `None` if
 /// the handle keeps no node. The node stays as it is.
 pub fn next_deck_of(
     alloc: Global,

@@ -19,7 +19,7 @@ use Rattle.rp_requests.specs.rp_model.specs.Parts.{Turn, fresh_running}
 use Rattle.rp_requests.specs.rp_model.specs.Says.{notes}
 use Rattle.rp_requests.specs.rp_model.specs.World.{part_at}
 use Rattle.rp_outbox.specs.Packets.{texts_of}
-use Rattle.rp_installations.specs.specs.Pending.{noted_by}
+use Rattle.rp_installations.specs.Pending.{noted_by}
 use Rattle.rp_replica.specs.Inputs.{effect_if_given}
 use Rattle.rp_requests.specs.Texts.{step_text, FitsStep, task_request_text, FitsTaskRequest}
 use Rattle.rp_requests.specs.TaskRequests.{TaskAsked, MakeCall, TakePacket, task_asked_of}

@@ -18,3 +18,4 @@ pub mod Deeds
 pub mod Plays
 pub mod Kept
 pub mod Reopened
+pub mod Opening

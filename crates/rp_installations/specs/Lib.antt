@@ -7,6 +7,7 @@ pub mod Pending
 pub mod Making
 pub mod Breaches
 pub mod Kept
+pub mod HandleMoves
 pub use Rattle.rp_agreement
 pub use Rattle.rp_base
 pub use Rattle.rp_model.specs.rp_machine

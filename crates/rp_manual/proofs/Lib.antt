@@ -4,3 +4,5 @@ pub mod Acting
 pub mod Serving
 pub mod Calling
 pub mod Turns
+pub mod Computing
+pub mod Digits

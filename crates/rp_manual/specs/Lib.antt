@@ -2,6 +2,13 @@ pub mod Expressions
 pub mod Statements
 pub mod ObjectRules
 pub mod ProgramRules
+pub mod Memory
+pub mod Outcomes
+pub mod Gate
+pub mod Gates
+pub mod Box
+pub mod Sums
+pub mod Images
 pub use Rattle.rp_object.specs.rp_base
 pub use Rattle.rp_object.specs.rp_body
 pub use Rattle.rp_object.specs.rp_entry

@@ -1,3 +1,4 @@
 pub mod WordsRead
 pub mod LinesRead
 pub mod PacketsRead
+pub mod ItemsRead

@@ -1,6 +1,6 @@
 -- There is a lane for each task and for each node, and they are those that are drawn.
 use Rattle.std.proofs.Common.{rules, arith, ◌≡◌, ◌∙◌, ◌+◌, ap, length, map}
-use Rattle.rp_chart_run.specs.rp_history.specs.Histories.{lane_text}
+use Rattle.rp_history.specs.Histories.{lane_text}
 use Rattle.rp_script.specs.rp_run.specs.Output.{names_of}
 use Rattle.rp_chart.specs.Charts.{lanes_of}
 use Rattle.rp_chart.proofs.Lanes.{lanes_count}

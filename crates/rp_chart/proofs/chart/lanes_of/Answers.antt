@@ -1,6 +1,6 @@
 -- One lane more.
 use Rattle.std.proofs.Common.{◌≡◌, ◌<◌, ◌∙◌, map, length, ap, arith}
-use Rattle.rp_chart_run.specs.rp_history.specs.Histories.{lane_text}
+use Rattle.rp_history.specs.Histories.{lane_text}
 use Rattle.rp_script.specs.rp_run.specs.Output.{names_of}
 use Rattle.rp_chart.specs.Charts.{task_lane}
 use Rattle.rp_chart.proofs.Lanes.{names_count, next_node, next_task}

@@ -1,5 +1,5 @@
 use Rattle.std.proofs.Common.{◌≡◌, ◌++◌, map, take}
-use Rattle.rp_chart_run.specs.rp_history.specs.Histories.{lane_text}
+use Rattle.rp_history.specs.Histories.{lane_text}
 use Rattle.rp_script.specs.rp_machine.specs.Replay.{one_to}
 use Rattle.rp_script.specs.rp_run.specs.Output.{names_of}
 use Rattle.rp_chart.specs.Charts.{node_lane, task_lane}

@@ -4,12 +4,12 @@ use Rattle.std.specs.Io.KnownBytes.{Appends}
 use Rattle.std.specs.Prelude.{IfSome}
 use Rattle.rp_script.specs.rp_base.specs.declared.fault.Fault.TheVariants.{OutOfMemory}
 use Rattle.rp_script.specs.rp_deck.specs.Deck.{IsRightDeck}
-use Rattle.rp_explore_rules.specs.rp_explore_deck.specs.Plans.{plan_of, plan_text}
-use Rattle.rp_explore_rules.specs.rp_explore_deck.specs.declared.plan.Plan.{Plan}
+use Rattle.rp_explore_deck.specs.Plans.{plan_of, plan_text}
+use Rattle.rp_explore_deck.specs.declared.plan.Plan.{Plan}
 use Rattle.rp_explore_run.specs.Explores.{ExploresAs, FailsExplore, IsExplored}
 use Rattle.rp_explore_run.specs.declared.answer.ExploreRequest.{ExploreRequest}
 use Rattle.rp_explore_run.specs.declared.answer.Printed.{Printed}
-use Rattle.rp_order_deck.specs.Wanted.{text_lines}
+use Rattle.rp_explore_run.specs.Wanted.{text_lines}
 use Rattle.rp_script.specs.rp_output.specs.Stream.{Begins}
 use Rattle.rp_script.specs.rp_output.proofs.Writing.{appends_kept, begins_all}
 use Rattle.rp_script.proofs.Failing.{on_err}

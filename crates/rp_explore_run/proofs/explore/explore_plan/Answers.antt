@@ -5,8 +5,8 @@ use Rattle.std.proofs.lemmas.Result.{IfOk-weaker}
 use Rattle.std.specs.Arc.{arc_value}
 use Rattle.rp_script.specs.rp_deck.specs.declared.deck.Line.{Line}
 use Rattle.rp_script.specs.rp_deck_declarations.specs.declared.deck_program.DeckProgram.{DeckProgram}
-use Rattle.rp_explore_rules.specs.rp_explore_deck.specs.declared.actions.PlannedAction.{PlannedAction}
-use Rattle.rp_explore_rules.specs.rp_explore_deck.specs.declared.rules.PlacedRule.{PlacedRule}
+use Rattle.rp_explore_deck.specs.declared.actions.PlannedAction.{PlannedAction}
+use Rattle.rp_explore_deck.specs.declared.rules.PlacedRule.{PlacedRule}
 use Rattle.rp_explore_run.specs.Explores.{IsExploredBy, head_of}
 use Rattle.rp_explore_run.specs.Judging.{keeps, no_truths}
 use Rattle.rp_explore_run.specs.declared.explore.Asked.{Asked}

@@ -1,5 +1,5 @@
 use Rattle.std.proofs.Common.{◌≡◌, map, take}
-use Rattle.rp_explore_rules.specs.rp_explore_deck.specs.declared.actions.PlannedAction.{PlannedAction}
+use Rattle.rp_explore_deck.specs.declared.actions.PlannedAction.{PlannedAction}
 use Rattle.rp_explore_run.proofs.explore.may_of.Given as goal
 
 -- the actions before this one are there

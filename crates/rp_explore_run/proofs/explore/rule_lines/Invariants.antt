@@ -1,5 +1,5 @@
 use Rattle.std.proofs.Common.{◌≡◌, map, take}
-use Rattle.rp_explore_rules.specs.rp_explore_deck.specs.declared.rules.PlacedRule.{PlacedRule}
+use Rattle.rp_explore_deck.specs.declared.rules.PlacedRule.{PlacedRule}
 use Rattle.rp_explore_run.proofs.explore.rule_lines.Given as goal
 
 -- the lines before this one are there

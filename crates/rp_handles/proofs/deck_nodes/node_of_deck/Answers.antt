@@ -1,7 +1,7 @@
 -- A node is opened with the deck's program and configuration, or the deck has none of this number.
 use Rattle.rp_handles.proofs.Decks.{at_err, each_ok, no_node, one_node}
 use Rattle.std.specs.Arc.{arc_value}
-use Rattle.rp_next_deck.specs.rp_object.specs.State.{first_state}
+use Rattle.rp_object.specs.State.{first_state}
 use Rattle.rp_requests.specs.Opening.{IsOpenedNode}
 use Rattle.rp_handles.specs.DeckNodes.{OpensNode, OpensNoNode}
 use Rattle.rp_handles.proofs.deck_nodes.node_of_deck.Goals as goal

@@ -1,3 +1,0 @@
-pub mod Charting
-pub mod Losses
-pub mod ScriptHistory

@@ -1,8 +1,0 @@
-pub mod Causes
-pub mod Effects
-pub mod Prospects
-pub mod ScriptHistory
-pub mod Charts
-pub use Rattle.rp_history.specs.rp_drawing
-pub use Rattle.rp_history
-pub use Rattle.rp_page

@@ -1,8 +1,0 @@
-use Rattle.rp_deck_meanings.proofs.ExampleLemmas.{example_is, example_written}
-use Rattle.rp_deck_meanings.proofs.laws.an_example_is_right.Goals as goal
-
-pub returns-clause-right : goal.returns-clause-right
-returns-clause-right c = example_is
-
-pub returns-clause-text : goal.returns-clause-text
-returns-clause-text c = example_written

@@ -1,2 +1,0 @@
-pub mod Rules
-pub use Rattle.rp_explore_deck

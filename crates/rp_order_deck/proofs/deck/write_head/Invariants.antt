@@ -1,8 +1,0 @@
-use Rattle.std.proofs.Common.{◌≡◌, ◌++◌, List, ℕ, Bor, map, take}
-use Rattle.rp_order_deck.specs.OrderDecks.{head_from}
-use Rattle.rp_order_deck.proofs.deck.write_head.Given as goal
-
--- the lines before this one are written
-abbrev pub invariant-loop-place : goal.invariant-loop-place
-invariant-loop-place l =
-    l.text.items ≡ l.fn.text.items ++ head_from l.source.rules.now 1 (take l.place (map (λ (line : Bor (List ℕ)). line.now) l.source.lines.now))

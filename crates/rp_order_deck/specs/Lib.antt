@@ -1,2 +1,0 @@
-pub mod OrderDecks
-pub mod Wanted

@@ -1,6 +1,0 @@
--- By computing.
-use Rattle.rp_worked.proofs.Computing.{works}
-use Rattle.rp_worked.proofs.gate.a_full_queue_refuses_a_further_call.Goals as goal
-
-pub returns : goal.returns
-returns c unread = record { answered = simp works; left = simp works }

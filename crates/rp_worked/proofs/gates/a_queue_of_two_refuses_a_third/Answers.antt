@@ -1,6 +1,0 @@
--- By computing.
-use Rattle.rp_worked.proofs.Computing.{works}
-use Rattle.rp_worked.proofs.gates.a_queue_of_two_refuses_a_third.Goals as goal
-
-pub returns : goal.returns
-returns c unread = record { answered = simp works; left = simp works }

@@ -1,7 +1,0 @@
--- By computing.
-use Rattle.rp_worked.proofs.Computing.{works}
-use Rattle.rp_worked.proofs.Digits.{digits}
-use Rattle.rp_worked.proofs.images.boxes_are_shown.Goals as goal
-
-pub returns : goal.returns
-returns c unread number is_name is_number = simp (works, is_name, is_number, digits)

@@ -1,7 +1,8 @@
 # Made by tools/words. Completes the words of rp_console: source it, or copy it to the shell's completions.
 _rp_console() {
+    COMPREPLY=()
     local word=${COMP_WORDS[COMP_CWORD]} last=${COMP_WORDS[COMP_CWORD-1]} words used
-    case $last in =|--seed|--turns|--position|--from|--to|--states|--deck) return ;; esac
+    case $last in [\<\>]*) compopt -o default; return ;; =|--seed|--turns|--position|--from|--to|--states|--deck) return ;; esac
     [[ $word == = ]] && return
     case ${COMP_WORDS[1]} in
         script) words=" --trace -h --help " ;;

@@ -139,7 +139,7 @@ module _ {S : Type 0} (s : Setting S) (right : IsRightConfig s.config) (answerin
           replied = λ answer stated. record { taken = ends.replied answer stated; ordered = ordered ends.after later answer (ends.replied answer stated) };
         }
 
-    is_filled : ((events : List Event) (u : World) → GoesOnBy s quorum t (length w.sent) w events u → AllInLog s.config.max_positions u) → ((i : ℕ) → ¬ IsPositionLeft s.config.max_positions w quorum i)
+    is_filled : ((events : List Event) (u : World) → GoesOnBy s quorum t (length w.sent) w events u → AllInLog s.config.max_positions u) → ((i : ℕ) → ¬ IsPositionLeft s.config.max_positions (records_in w) quorum i)
         → Fills s bare.bare t (length w.sent) x replies w → CanFill s quorum t replies w
     is_filled in_log none fills =
         let later = keeps_on s bare.bare t (length w.sent) right w fills.events fills.after kept fills.goes_on in
@@ -153,7 +153,7 @@ module _ {S : Type 0} (s : Setting S) (right : IsRightConfig s.config) (answerin
           absent = no_place s fills.after x later (in_log fills.events fills.after goes) fills.full (next_of t replies) fills.absent;
         }
 
-    ballots_bare : (i round : ℕ) → AreBallotsLeft w quorum x i round → AreBallotsLeft w bare.bare x i round
+    ballots_bare : (i round : ℕ) → AreBallotsLeft (records_in w) quorum x i round → AreBallotsLeft (records_in w) bare.bare x i round
     ballots_bare i round ballots = record { within = λ y h. ballots.within y (bare.inside y h); enough = ballots.enough }
 
     -- whatever call the task waits for is its next one
@@ -186,7 +186,7 @@ module _ {S : Type 0} (s : Setting S) (right : IsRightConfig s.config) (answerin
         let many : length (task_in w.tasks t).replies ≡ length replies = ap (λ (p : TaskPart). length p.replies) part in
         call_own call has ((kept.kept.answered t).waits call waits ∙ ap (λ (n : ℕ). named t (suc n) ∷ []) many) (kept.kept.own t call waits).1
 
-    pub waiting_served : (i round : ℕ) → IsPositionLeft s.config.max_positions w quorum i → AreBallotsLeft w quorum x i round → (call : Action) → TaskHas w t replies (Some call)
+    pub waiting_served : (i round : ℕ) → IsPositionLeft s.config.max_positions (records_in w) quorum i → AreBallotsLeft (records_in w) quorum x i round → (call : Action) → TaskHas w t replies (Some call)
         → CanCount s quorum x t replies w []
     waiting_served i round position ballots call has =
         let own = its_own call has in
@@ -194,7 +194,7 @@ module _ {S : Type 0} (s : Setting S) (right : IsRightConfig s.config) (answerin
         (record { in_log = position.in_log; unvoted = λ y b v h. position.unvoted y b v (bare.inside y h) }) (ballots_bare i round ballots))
 
     -- or no position is left
-    pub waiting_either : (round : ℕ) → ((events : List Event) (u : World) → GoesOnBy s quorum t (length w.sent) w events u → AllInLog s.config.max_positions u) → AreBallotsLeft w quorum x s.config.max_positions round
+    pub waiting_either : (round : ℕ) → ((events : List Event) (u : World) → GoesOnBy s quorum t (length w.sent) w events u → AllInLog s.config.max_positions u) → AreBallotsLeft (records_in w) quorum x s.config.max_positions round
         → (call : Action) → TaskHas w t replies (Some call) → CanCount s quorum x t replies w [] ⊎ CanFill s quorum t replies w
     waiting_either round in_log ballots call has =
         let own = its_own call has in
@@ -251,7 +251,7 @@ module _ {S : Type 0} (s : Setting S) (right : IsRightConfig s.config) (answerin
       }
 
   pub next_served : (w : World) (quorum : List ℕ) (x : ℕ) → IsKeptWorld s w → IsQuorum s.config.nodes quorum x
-      → (i round : ℕ) → IsPositionLeft s.config.max_positions w quorum i → AreBallotsLeft w quorum x i round
+      → (i round : ℕ) → IsPositionLeft s.config.max_positions (records_in w) quorum i → AreBallotsLeft (records_in w) quorum x i round
       → (object : ℕ) (operation : Operation) (arg : ℤ) → TaskHas w t replies None → IsRight (actions.Call t (suc (length replies)) object operation arg)
       → CanCount s quorum x t replies w (Submit t x object operation arg ∷ [])
   next_served w quorum x kept is i round position ballots object operation arg has rights =

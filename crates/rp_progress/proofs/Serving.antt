@@ -188,7 +188,7 @@ module _ {S : Type 0} (s : Setting S) (right : IsRightConfig s.config) (answerin
         ];
       }
 
-      waiting_ends : (i round : ℕ) → IsPositionLeft s.config.max_positions w quorum i → AreBallotsLeft w quorum x i round → Ends s quorum t first x replies w
+      waiting_ends : (i round : ℕ) → IsPositionLeft s.config.max_positions (records_in w) quorum i → AreBallotsLeft (records_in w) quorum x i round → Ends s quorum t first x replies w
       waiting_ends i round position ballots =
           let goes = goes_waiting in
           let low = enough_asked in
@@ -200,7 +200,7 @@ module _ {S : Type 0} (s : Setting S) (right : IsRightConfig s.config) (answerin
           position.in_log.1 ahead (omega (arith, ahead)) ballots.enough
           (λ y h. no_last (records_in w y) i (λ b a voted. position.unvoted y b a h voted)) ballots.within)
 
-      waiting_either : (round : ℕ) → AreBallotsLeft w quorum x s.config.max_positions round → Ends s quorum t first x replies w ⊎ Fills s quorum t first x replies w
+      waiting_either : (round : ℕ) → AreBallotsLeft (records_in w) quorum x s.config.max_positions round → Ends s quorum t first x replies w ⊎ Fills s quorum t first x replies w
       waiting_either round ballots =
           let goes = goes_waiting in
           let low = enough_asked in
@@ -215,7 +215,7 @@ module _ {S : Type 0} (s : Setting S) (right : IsRightConfig s.config) (answerin
       all_restart s quorum t first quorum w bare.nodes.distinct (λ y h. (h, is_node y h, (let member = bare.nodes.members y h in part_is w.nodes y member.0 (omega (arith, member.1, kept.size)))))
 
   pub served : (w : World) (i round : ℕ) → IsKeptWorld s w → first ≤ length w.sent → TaskHas w t replies (Some call)
-      → IsPositionLeft s.config.max_positions w quorum i → AreBallotsLeft w quorum x i round → Ends s quorum t first x replies w
+      → IsPositionLeft s.config.max_positions (records_in w) quorum i → AreBallotsLeft (records_in w) quorum x i round → Ends s quorum t first x replies w
   served w i round kept enough has position ballots =
       elim (occurs_or_not t (suc m) (applied_in w x)) [
         | inr occurs ↦ counted_ends w kept enough has (all_fresh w kept) occurs
@@ -223,7 +223,7 @@ module _ {S : Type 0} (s : Setting S) (right : IsRightConfig s.config) (answerin
       ]
 
   -- or the log is full
-  pub served_or_full : (w : World) (round : ℕ) → IsKeptWorld s w → first ≤ length w.sent → TaskHas w t replies (Some call) → AreBallotsLeft w quorum x s.config.max_positions round
+  pub served_or_full : (w : World) (round : ℕ) → IsKeptWorld s w → first ≤ length w.sent → TaskHas w t replies (Some call) → AreBallotsLeft (records_in w) quorum x s.config.max_positions round
       → Ends s quorum t first x replies w ⊎ Fills s quorum t first x replies w
   served_or_full w round kept enough has ballots =
       elim (occurs_or_not t (suc m) (applied_in w x)) [

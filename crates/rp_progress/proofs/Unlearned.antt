@@ -64,11 +64,11 @@ no_vote records i none b v has =
 -- ---- whether a position is left
 
 module _ (w : World) where
-  unvoted_or_not : (ys : List ℕ) (i : ℕ) → IsUnvoted w ys i ⊎ (¬ IsUnvoted w ys i)
+  unvoted_or_not : (ys : List ℕ) (i : ℕ) → IsUnvoted (records_in w) ys i ⊎ (¬ IsUnvoted (records_in w) ys i)
   unvoted_or_not [] i = inl (λ y b v h. absurd h)
   unvoted_or_not (y ∷ ys) i = by (last_vote_at (records_in w y) i) refl (unvoted_or_not ys i)
     where
-      by : (o : Option Vote) → last_vote_at (records_in w y) i ≡ o → IsUnvoted w ys i ⊎ (¬ IsUnvoted w ys i) → IsUnvoted w (y ∷ ys) i ⊎ (¬ IsUnvoted w (y ∷ ys) i)
+      by : (o : Option Vote) → last_vote_at (records_in w y) i ≡ o → IsUnvoted (records_in w) ys i ⊎ (¬ IsUnvoted (records_in w) ys i) → IsUnvoted (records_in w) (y ∷ ys) i ⊎ (¬ IsUnvoted (records_in w) (y ∷ ys) i)
       by (Some vote) is others = inr (λ all. all y vote.ballot vote.action (inl refl) (last_cast (records_in w y) i vote is))
       by None is (inr some) = inr (λ all. some (λ z b v h. all z b v (inr h)))
       by None is (inl others) = inl (λ z b v h. elim h [
@@ -77,7 +77,7 @@ module _ (w : World) where
       ])
 
   -- among n positions from one on
-  pub some_unvoted : (quorum : List ℕ) (n p : ℕ) → ((i : ℕ) × (p ≤ i) × (i < p + n) × IsUnvoted w quorum i) ⊎ ((i : ℕ) → p ≤ i → i < p + n → ¬ IsUnvoted w quorum i)
+  pub some_unvoted : (quorum : List ℕ) (n p : ℕ) → ((i : ℕ) × (p ≤ i) × (i < p + n) × IsUnvoted (records_in w) quorum i) ⊎ ((i : ℕ) → p ≤ i → i < p + n → ¬ IsUnvoted (records_in w) quorum i)
   some_unvoted quorum zero p = inr (λ i low high all. absurd (omega (arith, low, high)))
   some_unvoted quorum (suc n) p =
       elim (unvoted_or_not quorum (p + n)) [
@@ -85,7 +85,7 @@ module _ (w : World) where
         | inr some ↦ elim (some_unvoted quorum n p) [
           | inl found ↦ inl (found.0, found.1, omega (arith, found.2), found.3)
           | inr none ↦ inr (λ i low high. elim (cases_eq i (p + n)) [
-            | inl same ↦ subst (λ (k : ℕ). ¬ IsUnvoted w quorum k) (sym same) some
+            | inl same ↦ subst (λ (k : ℕ). ¬ IsUnvoted (records_in w) quorum k) (sym same) some
             | inr other ↦ none i low (omega (arith, high, other))
           ])
         ]

@@ -35,20 +35,22 @@ pub record IsQuorum (nodes : ℕ) (quorum : List ℕ) (leader : ℕ) : Type 0 wh
   pub leads : Has leader quorum
 
 -- none of these nodes wrote a vote at the position
-abbrev pub IsUnvoted : World → List ℕ → ℕ → Type 0
-IsUnvoted w nodes i =
-    (y b : ℕ) (v : Action) → Has y nodes → ¬ Has (Voted i b v) (records_in w y)
+abbrev pub IsUnvoted : (ℕ → List Rec) → List ℕ → ℕ → Type 0
+IsUnvoted records nodes i = (y b : ℕ) (v : Action) → Has y nodes → ¬ Has (Voted i b v) (records y)
 
--- A position is left: one of the log at which no node of the quorum voted.
-pub record IsPositionLeft (most : ℕ) (w : World) (quorum : List ℕ) (i : ℕ) : Type 0 where
+-- A position is left, where each node has these records: one of the log at which no node of the
+-- quorum voted.
+pub record IsPositionLeft (most : ℕ) (records : ℕ → List Rec) (quorum : List ℕ) (i : ℕ)
+    : Type 0 where
   pub in_log : IsUpTo most i
-  pub unvoted : IsUnvoted w quorum i
+  pub unvoted : IsUnvoted records quorum i
 
 -- Ballots are left: no ballot on a record of the quorum is of a round above this one, and there is
 -- a round above it for each position from the leader's first unlearned one to this one.
-pub record AreBallotsLeft (w : World) (quorum : List ℕ) (leader i round : ℕ) : Type 0 where
-  pub within : (y : ℕ) → Has y quorum → AreWithinRound round (records_in w y)
-  pub enough : round + (suc i - first_unlearned (records_in w leader)) < 2 ^ 32
+pub record AreBallotsLeft (records : ℕ → List Rec) (quorum : List ℕ) (leader i round : ℕ)
+    : Type 0 where
+  pub within : (y : ℕ) → Has y quorum → AreWithinRound round (records y)
+  pub enough : round + (suc i - first_unlearned (records leader)) < 2 ^ 32
 
 -- the task has got these replies and no others, and waits for this call, or for none
 abbrev pub TaskHas : World → ℕ → List Answer → Option Action → Type 0
@@ -117,7 +119,7 @@ IsFull nodes most w =
 pub record CanFill {S : Type 0} (s : Setting S) (quorum : List ℕ) (t : ℕ) (replies : List Answer)
     (w : World)
     : Type 0 where
-  pub none_left : (i : ℕ) → ¬ IsPositionLeft s.config.max_positions w quorum i
+  pub none_left : (i : ℕ) → ¬ IsPositionLeft s.config.max_positions (records_in w) quorum i
   pub more : List Event
   pub after : World
   pub goes_on : GoesOnBy s quorum t (length w.sent) w more after

@@ -15,7 +15,7 @@ ghost use Rattle.rp_agreement.specs.Answered.{named, setting_for};
 ghost use Rattle.rp_agreement.specs.Computed.{order_of};
 ghost use Rattle.rp_agreement.specs.History.{IsHistory, AreMoments};
 ghost use Rattle.rp_possible.specs.Rounds.{GoesOnBy};
-ghost use Rattle.rp_progress.specs.Waiting.{IsQuorum, IsPositionLeft, AreBallotsLeft};
+ghost use Rattle.rp_progress.specs.Waiting.{IsQuorum, IsPositionLeft, AreBallotsLeft, records_in};
 ghost use Rattle.rp_progress.specs.Waiting.{TaskHas, CanBeAnswered, CanCount, CanFill, IsFull};
 
 use rp_agreement::{
@@ -37,8 +37,8 @@ pub fn a_waiting_call_can_count<M: Machine>()
         (quorum : List ℕ) (leader i round t : ℕ) (replies : List Answer) (call : Action)
         → let setting = setting_for M.next M.answers M.begin config program in
         IsHistory setting events w → IsQuorum config.nodes quorum leader
-        → IsPositionLeft config.max_positions w quorum i
-        → AreBallotsLeft w quorum leader i round
+        → IsPositionLeft config.max_positions (records_in w) quorum i
+        → AreBallotsLeft (records_in w) quorum leader i round
         → TaskHas w t replies (Some call)
         → CanCount setting quorum leader t replies w [] }
 {
@@ -58,8 +58,8 @@ pub fn a_waiting_call_can_be_answered<M: Machine>()
         (quorum : List ℕ) (leader i round t : ℕ) (replies : List Answer) (call : Action)
         → let setting = setting_for M.next M.answers M.begin config program in
         IsHistory setting events w → IsQuorum config.nodes quorum leader
-        → IsPositionLeft config.max_positions w quorum i
-        → AreBallotsLeft w quorum leader i round
+        → IsPositionLeft config.max_positions (records_in w) quorum i
+        → AreBallotsLeft (records_in w) quorum leader i round
         → TaskHas w t replies (Some call)
         → CanBeAnswered setting quorum leader t replies w }
 {
@@ -78,8 +78,8 @@ pub fn a_task_can_go_on<M: Machine>()
         (replies : List Answer)
         → let setting = setting_for M.next M.answers M.begin config program in
         IsHistory setting events w → IsQuorum config.nodes quorum leader
-        → IsPositionLeft config.max_positions w quorum i
-        → AreBallotsLeft w quorum leader i round
+        → IsPositionLeft config.max_positions (records_in w) quorum i
+        → AreBallotsLeft (records_in w) quorum leader i round
         → TaskHas w t replies None
         → IsRight (Call t (suc (length replies)) object operation arg)
         → CanCount setting quorum leader t replies w (Submit t leader object operation arg ∷ []) }
@@ -102,7 +102,7 @@ pub fn a_call_counts_later_or_the_log_is_full<M: Machine>()
         (quorum : List ℕ) (leader round t : ℕ) (replies : List Answer) (call : Action)
         → let setting = setting_for M.next M.answers M.begin config program in
         IsHistory setting events w → IsQuorum config.nodes quorum leader
-        → AreBallotsLeft w quorum leader config.max_positions round
+        → AreBallotsLeft (records_in w) quorum leader config.max_positions round
         → TaskHas w t replies (Some call)
         → CanCount setting quorum leader t replies w [] ⊎ CanFill setting quorum t replies w }
     // claim (ends, full): Once an action is decided at each position of the log the order of all

@@ -15,7 +15,7 @@ use Rattle.rp_codec.specs.Reading.{all_of}
 use Rattle.rp_codec.proofs.Decoded.{whole_again}
 use Rattle.rp_model.specs.Effect.{NodeInput}
 use Rattle.rp_model.specs.Effect as inputs
-use Rattle.rp_rules.specs.Inputs.{packet_given}
+use Rattle.rp_replica.specs.rp_rules.specs.Inputs.{packet_given}
 use Rattle.rp_requests.specs.Requests.{Asked, Step, Applied, Image, LastAnswer, Left, given, lead_at, interrupt_if_right, tick_asked, report_from, range_if, range_from, ask_to, asked_of_kind, asked_of, Pending, Counted}
 use Rattle.rp_requests.specs.Texts.{step_text, FitsStep, applied_text, image_text, last_answer_text, left_text, pending_text, counted_text}
 

@@ -1,0 +1,9 @@
+mod Bytes
+mod Reaching
+mod NodeMoves
+mod TaskMoves
+mod Level
+mod Events
+mod Reopening
+mod Devices
+mod Laws

@@ -1,0 +1,102 @@
+-- A call that a task by handle waits for, or makes next: what some nodes and this task can go on to
+-- do, and what becomes of the call.
+use Rattle.std.specs.Prelude.{◌≡◌, ◌≢◌, ◌⊎◌, ℕ, Some, None, List, [], ◌∷◌, ◌++◌}
+use Rattle.rp_base.specs.Sets.{Has}
+use Rattle.rp_base.specs.declared.action.Action.{Action}
+use Rattle.rp_base.specs.declared.config.Config.{Config}
+use Rattle.rp_base.specs.declared.record.Rec.{Rec}
+use Rattle.rp_base.specs.declared.reply.Answer.{Answer}
+use Rattle.rp_base.specs.declared.reply.Reply.{Reply}
+use Rattle.rp_codec.specs.Text.{reply_text}
+use Rattle.rp_machine.specs.Places.{IsPlace, IsAnswerOf}
+use Rattle.rp_model.specs.World.{part_at}
+use Rattle.rp_agreement.specs.Answered.{named}
+use Rattle.rp_world.specs.rp_store.specs.Records.{AreRecordsOf}
+use Rattle.rp_requests.specs.Nodes.{NodeState}
+use Rattle.rp_requests.specs.rp_tasks.specs.Calls.{Calls}
+use Rattle.rp_installations.specs.Moves.{MachineMoves}
+use Rattle.rp_installations.specs.Outcomes.{IsOpenAt, applied_by}
+use Rattle.rp_installations.specs.Sites.{NodeSite, Installation}
+
+-- each of these nodes has these whole records among the bytes of its device that are synced
+pub record AreOnDevices {S : Type 0} (i : Installation S) (quorum : List ℕ)
+    (records : ℕ → List Rec) : Type 0 where
+  pub each : (y : ℕ) → Has y quorum → (site : NodeSite S) × (torn : List ℕ)
+      × (part_at i.nodes y ≡ Some site) × AreRecordsOf site.synced (records y) torn
+
+-- The task is open, and its handle keeps these calls; its requests returned these replies.
+pub record IsTaskAt {S : Type 0} (i : Installation S) (t : ℕ) (calls : Calls)
+    (replies : List (List ℕ)) : Type 0 where
+  pub site_is : part_at i.tasks t
+      ≡ Some (record { task = Some calls; replies = replies })
+
+-- Some of the packets that were handed on are lost, and nothing else changed.
+pub record HasLost {S : Type 0} (now after : Installation S) : Type 0 where
+  pub left : (packet : List ℕ) → Has packet after.handed_on → Has packet now.handed_on
+  pub goes : after ≡ record now { handed_on = after.handed_on }
+
+-- Only nodes of the quorum and the task were moved.
+pub record IsTheirMove {S : Type 0} (quorum : List ℕ) (t : ℕ) (before after : Installation S)
+    : Type 0 where
+  pub nodes : (y : ℕ) → (¬ Has y quorum) → part_at after.nodes y ≡ part_at before.nodes y
+  pub tasks : (u : ℕ) → u ≢ t → part_at after.tasks u ≡ part_at before.tasks u
+
+-- so by each of these moves
+abbrev pub AreTheirMoves : {S : Type 0} → List ℕ → ℕ → Installation S → List (Installation S)
+    → Type 0
+AreTheirMoves quorum t before [] = Unit {0}
+AreTheirMoves quorum t before (middle ∷ rest) =
+    IsTheirMove quorum t before middle × AreTheirMoves quorum t middle rest
+
+module _ {S : Type 0} (next : S → Action → S) (answers : S → Action → List Answer)
+    (image : S → List ℕ) (config : Config) (begin : S) where
+  -- Moves that keep the rules, of nodes of the quorum and of this task alone, lead from the one to
+  -- the other.
+  pub record GoesOnByHandle (quorum : List ℕ) (t : ℕ) (now later : Installation S)
+      : Type 0 where
+    pub moves : List (Installation S)
+    pub all : MachineMoves next answers image config begin now moves later
+    pub theirs : AreTheirMoves quorum t now moves
+
+  -- The leader is open, and has applied the call of this task and number at a place where it
+  -- counts.
+  pub record IsCountedAt (leader t number : ℕ) (i : Installation S) : Type 0 where
+    pub site : NodeSite S
+    pub node : NodeState S
+    pub opened : IsOpenAt i leader site node
+    pub place : ℕ
+    pub counts : IsPlace next answers begin (applied_by node) (named t number) place
+
+  -- It has; and if what it has applied answers the call, the task has got this reply too, after
+  -- those before, and waits for none.
+  pub record HasCounted (leader t number : ℕ) (replies : List (List ℕ)) (i : Installation S)
+      : Type 0 where
+    pub at : IsCountedAt leader t number i
+    pub replied : (answer : Answer)
+        → IsAnswerOf next answers begin (applied_by at.node) (named t number) answer
+        → IsTaskAt i t (record { task = t; made = number; outstanding = None })
+        (replies ++ reply_text answer.reply ∷ [])
+
+  -- A task's call of this number can count: by such moves it has counted at the leader, and is
+  -- answered if what the leader has applied answers it.
+  pub record CanCountByHandle (quorum : List ℕ) (leader t number : ℕ) (replies : List (List ℕ))
+      (now : Installation S) : Type 0 where
+    pub later : Installation S
+    pub goes_on : GoesOnByHandle quorum t now later
+    pub counted : HasCounted leader t number replies later
+
+  -- It has, and nothing that it has applied answers the call: the call waits at its object.
+  pub record WaitsByHandle (leader t number : ℕ) (i : Installation S) : Type 0 where
+    pub at : IsCountedAt leader t number i
+    pub unanswered : (answer : Answer)
+        → ¬ IsAnswerOf next answers begin (applied_by at.node) (named t number) answer
+
+  -- A task's call of this number can be answered: by such moves a request of the task has returned a
+  -- reply to it; or it waits at its object after them.
+  pub record CanBeAnsweredByHandle (quorum : List ℕ) (leader t number : ℕ)
+      (replies : List (List ℕ)) (now : Installation S) : Type 0 where
+    pub later : Installation S
+    pub goes_on : GoesOnByHandle quorum t now later
+    pub ends : ((reply : Reply) × IsTaskAt later t
+        (record { task = t; made = number; outstanding = None }) (replies ++ reply_text reply ∷ []))
+        ⊎ WaitsByHandle leader t number later

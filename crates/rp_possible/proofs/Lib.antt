@@ -7,6 +7,7 @@ pub mod Parts
 pub mod Tests
 pub mod Asked
 pub mod Refused
+pub mod LedAgain
 pub mod Answering
 pub mod Runs
 pub mod Ballots

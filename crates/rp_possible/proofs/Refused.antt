@@ -30,11 +30,11 @@ ok_same : (a b : Turn) → (let one : Result Turn Fault = Ok a in one) ≡ Ok b 
 ok_same a b e = cc
 
 -- the proposals that a refusal leaves
-abbrev left_by : ℕ → ℕ → ℕ → List Proposal → List Proposal
+abbrev pub left_by : ℕ → ℕ → ℕ → List Proposal → List Proposal
 left_by nodes i b proposals = filter (λ p. not (is_given_up nodes i b p)) proposals
 
 -- what is known after a refusal of a proposal that runs
-abbrev known_after : ℕ → Running → ℕ → ℕ → ℕ → Running
+abbrev pub known_after : ℕ → Running → ℕ → ℕ → ℕ → Running
 known_after nodes running i b bound = record running {
   proposals = left_by nodes i b running.proposals;
   refused = greatest_with running.refused bound;
@@ -80,7 +80,7 @@ those_left nodes i b proposals q = (
   λ are. passes (λ p. not (is_given_up nodes i b p)) q proposals are.0 (stays_if nodes i b q are.1 are.2),
 )
 
-none_left : (nodes i b : ℕ) (proposals : List Proposal) → proposal_at (left_by nodes i b proposals) i ≡ None
+pub none_left : (nodes i b : ℕ) (proposals : List Proposal) → proposal_at (left_by nodes i b proposals) i ≡ None
 none_left nodes i b [] = refl
 none_left nodes i b (q ∷ rest) =
     let test = not (is_given_up nodes i b q) in
@@ -117,7 +117,7 @@ no_offer_after s me other i b bound records running after last next known result
 
 -- ---- the next ballot
 
-above : (me floor bound : ℕ) → IsNode me → bound ≤ floor → bound < next_ballot me floor
+pub above : (me floor bound : ℕ) → IsNode me → bound ≤ floor → bound < next_ballot me floor
 above me floor bound is_node most = omega (arith, is_node.0, is_node.1, most)
 
 pub leads_above : {S : Type 0} (s : Setting S) (me i b bound c : ℕ) (choice : Option ℕ) (records : List Rec) (running after : Running) (next : Turn)

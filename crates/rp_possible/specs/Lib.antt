@@ -1,3 +1,4 @@
 pub mod Possible
 pub mod Rounds
 pub mod Offers
+pub mod Refusals

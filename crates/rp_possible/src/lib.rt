@@ -17,7 +17,10 @@ mod replies;
 mod rounds;
 mod tasks;
 
-pub use nodes::{a_refusal_ends_a_proposal, a_waiting_caller_is_answered, all_nodes_are_asked};
+pub use nodes::{
+    a_refusal_ends_a_proposal, a_refused_node_leads_again, a_waiting_caller_is_answered,
+    all_nodes_are_asked,
+};
 pub use offers::the_first_free_item_is_offered;
 pub use replies::{a_served_caller_gets_its_reply, each_task_gets_its_replies};
 pub use rounds::a_leader_decides_its_next_position;

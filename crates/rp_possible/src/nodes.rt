@@ -1,7 +1,8 @@
 //! What a node sends, in every state.
 
-ghost use Rattle.std.specs.Prelude.{◌≡◌, ◌≢◌, ◌↔◌, ◌≤◌, ◌<◌, ◌++◌, ℕ, ℤ, true, Ok, Some, None, [], ◌∷◌};
+ghost use Rattle.std.specs.Prelude.{◌≡◌, ◌≢◌, ◌↔◌, ◌≤◌, ◌<◌, ◌++◌, ◌^◌, ℕ, ℤ, true, Ok, Some, None, [], ◌∷◌};
 ghost use Rattle.std.specs.Prelude.{List, Option, length, drop};
+ghost use Rattle.rp_base.specs.Ballot.{next_ballot, round_of};
 ghost use Rattle.rp_base.specs.Number.{IsNode};
 ghost use Rattle.rp_base.specs.Proposals.{Proposal, is_gathering, proposal_at};
 ghost use Rattle.rp_base.specs.Records.{applied_of};
@@ -19,8 +20,10 @@ ghost use Rattle.rp_model.specs.rp_codec.specs.declared.packet.Body.TheVariants.
 ghost use Rattle.rp_model.specs.rp_codec.specs.declared.packet.Party.TheVariants.{Node, Task};
 ghost use Rattle.rp_model.specs.rp_machine.specs.Replay.{replay_answers};
 ghost use Rattle.rp_model.specs.Effect.{Setting, NodeInput, Receive, Lead, running_effect};
+ghost use Rattle.rp_model.specs.Leader.{starts_above};
 ghost use Rattle.rp_model.specs.Parts.{Running, Turn};
 ghost use Rattle.rp_model.specs.Says.{says, says_to_all};
+ghost use Rattle.rp_possible.specs.Refusals.{IsNextInTurn, LeadsAbove};
 
 use rp_machine::Machine;
 
@@ -94,4 +97,20 @@ pub fn a_refusal_ends_a_proposal<M: Machine>()
         → running_effect setting me records turn.running (Lead choice) ≡ Ok next
         → next.written ≡ Some (Started c)
         → bound < c }
+{}
+
+/// A node whose proposal is refused leads at that position once more by one command, though it is
+/// told no position, in a ballot above the bound: it need not stop, nor lead twice.
+pub fn a_refused_node_leads_again<M: Machine>()
+    // claim: A node whose proposal at its next position is refused, and that is told to lead then,
+    //   and at no position, leads there above the bound, if a ballot is left to it
+    ensures { (setting : Setting M) (me from i b bound : ℕ) (records : List Rec)
+        (running : Running) (turn : Turn)
+        → running_effect setting me records running (Receive (says from (Nack i b bound) me))
+        ≡ Ok turn
+        → from ≤ setting.config.nodes → i ≤ setting.config.max_positions → IsNode me
+        → IsNextInTurn setting i b records running
+        → round_of (next_ballot me (starts_above records turn.running)) < 2 ^ 32
+        → (next : Turn) × (running_effect setting me records turn.running (Lead None) ≡ Ok next)
+        × LeadsAbove setting me i bound next }
 {}

@@ -6,7 +6,6 @@ use Rattle.rp_base.specs.declared.action.Action.{Action}
 use Rattle.rp_base.specs.declared.config.Config.{Config}
 use Rattle.rp_base.specs.declared.record.Rec.{Rec}
 use Rattle.rp_base.specs.declared.reply.Answer.{Answer}
-use Rattle.rp_base.specs.declared.reply.Reply.{Reply}
 use Rattle.rp_codec.specs.Text.{reply_text}
 use Rattle.rp_machine.specs.Places.{IsPlace, IsAnswerOf}
 use Rattle.rp_model.specs.World.{part_at}
@@ -29,6 +28,13 @@ pub record IsTaskAt {S : Type 0} (i : Installation S) (t : ℕ) (calls : Calls)
     (replies : List (List ℕ)) : Type 0 where
   pub site_is : part_at i.tasks t
       ≡ Some (record { task = Some calls; replies = replies })
+
+-- The task has got this answer to its call of this number too, after these replies, and waits for
+-- none.
+abbrev pub HasTaken : {S : Type 0} → Installation S → ℕ → ℕ → List (List ℕ) → Answer → Type 0
+HasTaken i t number replies answer =
+    IsTaskAt i t (record { task = t; made = number; outstanding = None })
+    (replies ++ reply_text answer.reply ∷ [])
 
 -- Some of the packets that were handed on are lost, and nothing else changed.
 pub record HasLost {S : Type 0} (now after : Installation S) : Type 0 where
@@ -67,15 +73,13 @@ module _ {S : Type 0} (next : S → Action → S) (answers : S → Action → Li
     pub place : ℕ
     pub counts : IsPlace next answers begin (applied_by node) (named t number) place
 
-  -- It has; and if what it has applied answers the call, the task has got this reply too, after
-  -- those before, and waits for none.
+  -- It has; and if what it has applied answers the call, the task has got this answer.
   pub record HasCounted (leader t number : ℕ) (replies : List (List ℕ)) (i : Installation S)
       : Type 0 where
     pub at : IsCountedAt leader t number i
     pub replied : (answer : Answer)
         → IsAnswerOf next answers begin (applied_by at.node) (named t number) answer
-        → IsTaskAt i t (record { task = t; made = number; outstanding = None })
-        (replies ++ reply_text answer.reply ∷ [])
+        → HasTaken i t number replies answer
 
   -- A task's call of this number can count: by such moves it has counted at the leader, and is
   -- answered if what the leader has applied answers it.
@@ -85,18 +89,21 @@ module _ {S : Type 0} (next : S → Action → S) (answers : S → Action → Li
     pub goes_on : GoesOnByHandle quorum t now later
     pub counted : HasCounted leader t number replies later
 
-  -- It has, and nothing that it has applied answers the call: the call waits at its object.
-  pub record WaitsByHandle (leader t number : ℕ) (i : Installation S) : Type 0 where
-    pub at : IsCountedAt leader t number i
-    pub unanswered : (answer : Answer)
-        → ¬ IsAnswerOf next answers begin (applied_by at.node) (named t number) answer
+  -- The task has got the answer that these actions give to its call.
+  pub record IsRepliedByHandle (t number : ℕ) (replies : List (List ℕ)) (applied : List Action)
+      (i : Installation S) : Type 0 where
+    pub answer : Answer
+    pub given : IsAnswerOf next answers begin applied (named t number) answer
+    pub taken : HasTaken i t number replies answer
 
-  -- A task's call of this number can be answered: by such moves a request of the task has returned a
-  -- reply to it; or it waits at its object after them.
+  -- A task's call of this number can be answered, by such moves: it has counted at the leader, and
+  -- the task has got the answer; or what the leader has applied gives none, and the call waits at
+  -- its object.
   pub record CanBeAnsweredByHandle (quorum : List ℕ) (leader t number : ℕ)
       (replies : List (List ℕ)) (now : Installation S) : Type 0 where
     pub later : Installation S
     pub goes_on : GoesOnByHandle quorum t now later
-    pub ends : ((reply : Reply) × IsTaskAt later t
-        (record { task = t; made = number; outstanding = None }) (replies ++ reply_text reply ∷ []))
-        ⊎ WaitsByHandle leader t number later
+    pub at : IsCountedAt leader t number later
+    pub ends : IsRepliedByHandle t number replies (applied_by at.node) later
+        ⊎ ((answer : Answer)
+        → ¬ IsAnswerOf next answers begin (applied_by at.node) (named t number) answer)

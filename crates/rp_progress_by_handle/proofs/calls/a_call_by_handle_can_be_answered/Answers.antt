@@ -14,8 +14,9 @@ returns g c = λ config program moves now after quorum leader i round t records 
     record {
       later = can.later;
       goes_on = can.goes_on;
+      at = counted.at;
       ends = elim (answered_or_not (replay_answers m.next m.answers (m.begin program) (applied_by counted.at.node)) (named t calls.made)) [
-        | inl answered ↦ inl (answered.0.reply, counted.replied answered.0 answered.1)
-        | inr none ↦ inr (record { at = counted.at; unanswered = none })
+        | inl answered ↦ inl (record { answer = answered.0; given = answered.1; taken = counted.replied answered.0 answered.1 })
+        | inr none ↦ inr none
       ];
     }

@@ -21,6 +21,7 @@ use Rattle.rp_installations.specs.Sites.{NodeSite, Installation, closed_over, no
 use Rattle.rp_installations.proofs.Following.{from_nothing, moves_on}
 use Rattle.rp_progress_by_handle.specs.ByHandle.{AreOnDevices}
 use Rattle.rp_progress_by_handle.proofs.NodeMoves.{closes_on}
+use Rattle.rp_progress_by_handle.proofs.Reaching.{are_moves}
 
 get_there : {A : Type 0} (xs : List A) (i : ℕ) → i < length xs → slice_get xs i ≡ None → ⊥
 get_there [] i below none = absurd (omega (arith, below))
@@ -68,7 +69,7 @@ module _ {S : Type 0} (s : Setting S) (image : S → List ℕ) (ranged : (events
         by_closed part (IsClosed c) = record { records = part.records; torn = c.torn; are = c.records }
     holds y site here (Some node) open_now =
         let reach = closes_on s.next s.answers image s.config s.begin (y ∷ []) 0 now y site (inl refl) here (ap (λ (o : Option (NodeState S)). is_some o) open_now) in
-        let longer = moves_on s ranged image reach.goes.moves was.events was.world now reach.later was.history was.behind reach.goes.all in
+        let longer = moves_on s ranged image reach.goes.moves was.events was.world now reach.later was.history was.behind (are_moves s.next s.answers image s.config s.begin (y ∷ []) 0 reach.goes.moves now reach.later reach.goes.all) in
         let b = longer.behind.nodes y (closed_over site.synced site.noted) reach.there in
         closed_holds longer.world y b.0 site b.2
 

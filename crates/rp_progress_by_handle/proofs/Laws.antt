@@ -37,7 +37,7 @@ use Rattle.rp_progress_by_handle.specs.ByHandle.{AreOnDevices, IsTaskAt, HasLost
 use Rattle.rp_progress_by_handle.proofs.Events.{whole_records, makes_all}
 use Rattle.rp_progress_by_handle.proofs.Level.{NodeLevel, OpenLevel, ClosedLevel, IsLevelNode, TaskLevel, returned, IsLevel}
 use Rattle.rp_progress_by_handle.proofs.NodeMoves.{opens_on}
-use Rattle.rp_progress_by_handle.proofs.Reaching.{Goes, stands, goes_then}
+use Rattle.rp_progress_by_handle.proofs.Reaching.{Goes, stands, goes_then, are_moves}
 use Rattle.rp_progress_by_handle.proofs.Reopening.{IsReady, HaveReopened, all_reopen, level_fresh}
 use Rattle.rp_progress_by_handle.proofs.TaskMoves.{task_site}
 
@@ -139,7 +139,7 @@ module _ {S : Type 0} (s : Setting S) (image : S → List ℕ) (quorum : List �
     reopened = all_reopen s image quorum t records quorum is.members.distinct (λ y h. h) start ready
 
     on_now : HasLonger s was.events reopened.later
-    on_now = moves_on s ranged image reopened.goes.moves was.events was.world start reopened.later was.history behind reopened.goes.all
+    on_now = moves_on s ranged image reopened.goes.moves was.events was.world start reopened.later was.history behind (are_moves s.next s.answers image s.config s.begin quorum t reopened.goes.moves start reopened.later reopened.goes.all)
 
     abbrev world : World
     world = on_now.world

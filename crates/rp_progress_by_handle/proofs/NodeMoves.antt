@@ -1,5 +1,5 @@
 -- What a node's caller does for one event: a step is asked for, appended, synced and handed on; the node is closed; it is opened.
-use Rattle.std.proofs.Common.{◌≡◌, ℕ, false, Option, Some, Result, Ok, List, [], ◌∷◌, ◌++◌, length, map, take, drop, inl, inr, refl, sym, ap, subst, ◌∙◌, length-append, arith}
+use Rattle.std.proofs.Common.{◌≡◌, ℕ, ◌+◌, false, Option, Some, Result, Ok, List, [], ◌∷◌, ◌++◌, length, map, take, drop, inl, inr, refl, sym, ap, subst, ◌∙◌, length-append, length-drop, arith}
 use Rattle.std.specs.Prelude.{IsSome, nat_lt, replicate, if◌then◌else◌}
 use Rattle.std.specs.List.{AllByRecursion}
 use Rattle.std.proofs.lemmas.List.{append-nil, length-replicate}
@@ -28,6 +28,7 @@ use Rattle.rp_requests.specs.declared.refusal.Refusal.{Refusal}
 use Rattle.rp_installations.specs.Moves.{AreBytes, IsPacketIn, WasHandedOn, node_receives_byte, AsksSite, HandsOn, noted_if, is_step_made, with_step, site_answered, OpensFrom, AnswersBy, AnsweredRequest, all_given}
 use Rattle.rp_installations.specs.Moves as moves
 use Rattle.rp_installations.specs.Sites.{StepPackets, NodeSite, Installation, closed_over}
+use Rattle.rp_progress_by_handle.specs.ByHandle.{AnswersInPlace}
 use Rattle.rp_progress_by_handle.proofs.Reaching.{NodeReaches, stays, moves_node, node_then}
 
 -- ---- lists
@@ -138,22 +139,25 @@ module _ {S : Type 0} (next : S → Action → S) (answers : S → Action → Li
       asks : (i : Installation S) → part_at i.nodes me ≡ Some site → WasHandedOn i.handed_on node_receives_byte (step_text input) → Reaches i me asked_site []
       asks i here came =
           let front = stored ++ texts_of turn.sent in
-          let buffer = replicate step_bytes 0 in
-          let long : length buffer ≡ step_bytes = length-replicate {A = ℕ} step_bytes 0 in
+          let buffer = replicate (step_bytes + length front) 0 in
+          let long : length buffer ≡ step_bytes + length front = length-replicate {A = ℕ} (step_bytes + length front) 0 in
           let lengths : Lengths = record { stored = length stored; used = length front } in
           let result : Result Lengths Refusal = Ok lengths in
           let exchange : AnsweredRequest = record { request = step_text input; before = buffer; after = front ++ drop (length front) buffer; result = result } in
           let read = reads input fits in
           let answer : RequestAnswers next answers image (Some (Step (Ok input))) node new buffer exchange.after result =
           record { room = omega (arith, long); turn = turn; takes = effect; goes = refl; put = record { front = refl; stored_is = refl; used_is = refl } } in
-          let asks : AsksSite config.nodes (OpensFrom next answers image config begin) (AnswersBy next answers image) i.handed_on site asked_site = record {
+          let asks : AsksSite config.nodes (OpensFrom next answers image config begin) (AnswersInPlace next answers image config begin) i.handed_on site asked_site = record {
             exchange = exchange;
             old = node;
             new = new;
             opened = refl;
             bytes = bytes;
             arrived = came;
-            answers = subst (λ (a : Option Asked). RequestAnswers next answers image a node new buffer exchange.after result) (sym read) answer;
+            answers = (
+              subst (λ (a : Option Asked). RequestAnswers next answers image a node new buffer exchange.after result) (sym read) answer,
+              omega (arith, long, length-append front (drop (length front) buffer), length-drop (length front) buffer),
+            );
             goes = sym (ap (λ (a : Option Asked). site_answered site new (noted_if a) (is_step_made a result)) read);
           } in
           moves_node next answers image config begin quorum t i me site asked_site [] has here (moves.NodeMove.Requested asks refl)

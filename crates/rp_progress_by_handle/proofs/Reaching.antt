@@ -7,21 +7,53 @@ use Rattle.rp_base.specs.declared.config.Config.{Config}
 use Rattle.rp_base.specs.declared.reply.Answer.{Answer}
 use Rattle.rp_model.specs.World.{part_at, with_part}
 use Rattle.rp_agreement.proofs.PartPlaces.{put_there, put_beside}
-use Rattle.rp_installations.specs.Moves.{NodeMove, TaskMove, Move, MachineMoves, OpensFrom, AnswersBy}
+use Rattle.rp_installations.specs.Moves.{AnsweredRequest, NodeMove, TaskMove, Move, Moves, MachineMoves, OpensFrom, AnswersBy}
 use Rattle.rp_installations.specs.Moves as moves
+use Rattle.rp_requests.specs.Nodes.{NodeState}
 use Rattle.rp_installations.specs.Sites.{NodeSite, TaskSite, Installation}
-use Rattle.rp_progress_by_handle.specs.ByHandle.{AreTheirMoves, GoesOnByHandle}
+use Rattle.rp_progress_by_handle.specs.ByHandle.{AreTheirMoves, GoesOnByHandle, AnswersInPlace}
 
 module _ {S : Type 0} (next : S → Action → S) (answers : S → Action → List Answer) (image : S → List ℕ) (config : Config) (begin : S) (quorum : List ℕ) (t : ℕ) where
+  abbrev Opens : ℕ → List ℕ → NodeState S → ℕ → ℕ → Type 0
+  Opens = OpensFrom next answers image config begin
+
+  abbrev InPlace : AnsweredRequest → NodeState S → NodeState S → Type 0
+  InPlace = AnswersInPlace next answers image config begin
+
+  abbrev Steps : Installation S → List (Installation S) → Installation S → Type 0
+  Steps = Moves config.nodes Opens InPlace
+
+  -- ---- such moves are moves of an installation
+
+  node_any : (packets : List (List ℕ)) (me : ℕ) (before after : NodeSite S) (given : List (List ℕ)) → NodeMove config.nodes Opens InPlace packets me before after given → NodeMove config.nodes Opens (AnswersBy next answers image) packets me before after given
+  node_any packets me before after given (moves.NodeMove.Opened h none) =
+      moves.NodeMove.Opened (record { closed = h.closed; node = h.node; records = h.records; kept = h.kept; opens = h.opens; goes = h.goes }) none
+  node_any packets me before after given (moves.NodeMove.Requested a none) =
+      moves.NodeMove.Requested (record { exchange = a.exchange; old = a.old; new = a.new; opened = a.opened; bytes = a.bytes; arrived = a.arrived; answers = a.answers.0; goes = a.goes }) none
+  node_any packets me before after given (moves.NodeMove.Appended a none) = moves.NodeMove.Appended a none
+  node_any packets me before after given (moves.NodeMove.Synced a none) = moves.NodeMove.Synced a none
+  node_any packets me before after given (moves.NodeMove.HandedOn packet h same gives) = moves.NodeMove.HandedOn packet h same gives
+  node_any packets me before after given (moves.NodeMove.Closed a none) = moves.NodeMove.Closed a none
+
+  move_any : (before after : Installation S) → Move config.nodes Opens InPlace before after → Move config.nodes Opens (AnswersBy next answers image) before after
+  move_any before after (moves.Move.OfNode me site changed given here move goes) = moves.Move.OfNode me site changed given here (node_any before.handed_on me site changed given move) goes
+  move_any before after (moves.Move.OfTask task site changed given here move goes) = moves.Move.OfTask task site changed given here move goes
+
+  pub are_moves : (steps : List (Installation S)) (before after : Installation S) → Steps before steps after → MachineMoves next answers image config begin before steps after
+  are_moves [] before after same = same
+  are_moves (middle ∷ others) before after all = (move_any before middle all.0, are_moves others middle after all.1)
+
+  -- ---- one after another
+
   -- moves of the quorum and the task lead from the one to the other
   abbrev pub Goes : Installation S → Installation S → Type 0
   Goes i later = GoesOnByHandle next answers image config begin quorum t i later
 
-  moves_then : (i j k : Installation S) (steps more : List (Installation S)) → MachineMoves next answers image config begin i steps j → MachineMoves next answers image config begin j more k → MachineMoves next answers image config begin i (steps ++ more) k
-  moves_then i j k [] more same all = subst (λ (x : Installation S). MachineMoves next answers image config begin x more k) same all
+  moves_then : (i j k : Installation S) (steps more : List (Installation S)) → Steps i steps j → Steps j more k → Steps i (steps ++ more) k
+  moves_then i j k [] more same all = subst (λ (x : Installation S). Steps x more k) same all
   moves_then i j k (middle ∷ rest) more first all = (first.0, moves_then middle j k rest more first.1 all)
 
-  theirs_then : (i j : Installation S) (steps more : List (Installation S)) → MachineMoves next answers image config begin i steps j → AreTheirMoves quorum t i steps → AreTheirMoves quorum t j more → AreTheirMoves quorum t i (steps ++ more)
+  theirs_then : (i j : Installation S) (steps more : List (Installation S)) → Steps i steps j → AreTheirMoves quorum t i steps → AreTheirMoves quorum t j more → AreTheirMoves quorum t i (steps ++ more)
   theirs_then i j [] more same theirs later = subst (λ (x : Installation S). AreTheirMoves quorum t x more) same later
   theirs_then i j (middle ∷ rest) more first theirs later = (theirs.0, theirs_then middle j rest more first.1 theirs.1 later)
 
@@ -51,7 +83,7 @@ module _ {S : Type 0} (next : S → Action → S) (answers : S → Action → Li
   stays i me site here = record { later = i; goes = stands i; there = here; beside = λ y other. refl; tasks = refl; kept = λ p has. has; new = λ p none. absurd none }
 
   pub moves_node : (i : Installation S) (me : ℕ) (site changed : NodeSite S) (given : List (List ℕ)) → Has me quorum → part_at i.nodes me ≡ Some site
-      → NodeMove config.nodes (OpensFrom next answers image config begin) (AnswersBy next answers image) i.handed_on me site changed given → NodeReaches i me changed given
+      → NodeMove config.nodes (OpensFrom next answers image config begin) (AnswersInPlace next answers image config begin) i.handed_on me site changed given → NodeReaches i me changed given
   moves_node i me site changed given has here move =
       let after : Installation S = record i { nodes = with_part i.nodes me changed; handed_on = i.handed_on ++ given } in
       record {

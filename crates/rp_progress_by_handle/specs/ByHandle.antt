@@ -1,6 +1,6 @@
 -- A call that a task by handle waits for, or makes next: what some nodes and this task can go on to
 -- do, and what becomes of the call.
-use Rattle.std.specs.Prelude.{◌≡◌, ◌≢◌, ◌⊎◌, ℕ, Some, None, List, [], ◌∷◌, ◌++◌}
+use Rattle.std.specs.Prelude.{◌≡◌, ◌≢◌, ◌⊎◌, ℕ, Some, None, List, [], ◌∷◌, ◌++◌, length}
 use Rattle.rp_base.specs.Sets.{Has}
 use Rattle.rp_base.specs.declared.action.Action.{Action}
 use Rattle.rp_base.specs.declared.config.Config.{Config}
@@ -13,7 +13,7 @@ use Rattle.rp_agreement.specs.Answered.{named}
 use Rattle.rp_world.specs.rp_store.specs.Records.{AreRecordsOf}
 use Rattle.rp_requests.specs.Nodes.{NodeState}
 use Rattle.rp_requests.specs.rp_tasks.specs.Calls.{Calls}
-use Rattle.rp_installations.specs.Moves.{MachineMoves}
+use Rattle.rp_installations.specs.Moves.{AnsweredRequest, Moves, OpensFrom, AnswersBy}
 use Rattle.rp_installations.specs.Outcomes.{IsOpenAt, applied_by}
 use Rattle.rp_installations.specs.Sites.{NodeSite, Installation}
 
@@ -56,12 +56,19 @@ AreTheirMoves quorum t before (middle ∷ rest) =
 
 module _ {S : Type 0} (next : S → Action → S) (answers : S → Action → List Answer)
     (image : S → List ℕ) (config : Config) (begin : S) where
+  -- A request to a node is answered by the machine, in a buffer that keeps its length.
+  abbrev pub AnswersInPlace : AnsweredRequest → NodeState S → NodeState S → Type 0
+  AnswersInPlace exchange old new =
+      AnswersBy next answers image exchange old new
+      × (length exchange.after ≡ length exchange.before)
+
   -- Moves that keep the rules, of nodes of the quorum and of this task alone, lead from the one to
   -- the other.
   pub record GoesOnByHandle (quorum : List ℕ) (t : ℕ) (now later : Installation S)
       : Type 0 where
     pub moves : List (Installation S)
-    pub all : MachineMoves next answers image config begin now moves later
+    pub all : Moves config.nodes (OpensFrom next answers image config begin) AnswersInPlace now moves
+        later
     pub theirs : AreTheirMoves quorum t now moves
 
   -- The leader is open, and has applied the call of this task and number at a place where it

@@ -1,10 +1,11 @@
 -- The quorum's nodes are opened again, and what a history can go on with is made by moves.
 use Rattle.std.proofs.Common.{cond, ◌≡◌, ℕ, suc, ◌+◌, ◌-◌, ◌<◌, ◌≤◌, Option, Some, None, Ok, List, [], ◌∷◌, ◌++◌, length, refl, sym, ap, subst, ◌∙◌, length-append, arith}
 use Rattle.std.specs.Prelude.{is_some, ◌^◌}
-use Rattle.std.proofs.lemmas.List.{map-append}
+use Rattle.std.proofs.lemmas.List.{append-nil, map-append}
 use Rattle.rp_base.specs.Config.{IsRightConfig}
 use Rattle.rp_base.specs.Records.{applied_of, first_unlearned}
 use Rattle.rp_base.specs.Sets.{Has}
+use Rattle.rp_base.proofs.Members.{has_left}
 use Rattle.rp_base.specs.declared.action.Action.{Action}
 use Rattle.rp_base.specs.declared.record.Rec.{Rec}
 use Rattle.rp_base.specs.declared.record.Rec.TheVariants.{Voted}
@@ -14,26 +15,27 @@ use Rattle.rp_machine.specs.Places.{IsPlace, IsAnswerOf}
 use Rattle.rp_model.specs.Effect.{Setting, NodeInput}
 use Rattle.rp_model.specs.Events.{Event}
 use Rattle.rp_model.specs.Parts.{NodePart, TaskPart}
-use Rattle.rp_model.specs.World.{World, part_at}
+use Rattle.rp_model.specs.World.{World, part_at, with_part}
 use Rattle.rp_agreement.specs.History.{IsHistory}
 use Rattle.rp_agreement.specs.Ranges.{IsRangedWorld}
-use Rattle.rp_agreement.proofs.PartPlaces.{part_below}
+use Rattle.rp_agreement.proofs.PartPlaces.{part_below, put_there, put_beside}
 use Rattle.rp_world.specs.rp_store.proofs.Whole.{are_alone}
 use Rattle.rp_requests.specs.Nodes.{NodeState}
 use Rattle.rp_requests.specs.Requests.{Step, asked_of}
 use Rattle.rp_requests.specs.TaskRequests.{TaskAsked, task_asked_of}
 use Rattle.rp_requests.specs.Texts.{step_text, FitsStep, task_request_text, FitsTaskRequest}
-use Rattle.rp_requests.specs.rp_tasks.specs.Calls.{Calls}
+use Rattle.rp_requests.specs.rp_tasks.specs.Calls.{Calls, no_calls}
 use Rattle.rp_installations.specs.Behind.{IsBehind, IsNodeOver, IsOpen, IsClosed, IsTaskOver, HasHistory, HasLonger, calls_kept}
-use Rattle.rp_installations.specs.Moves.{IsInstallation}
+use Rattle.rp_installations.specs.Moves.{IsInstallation, MachineMoves}
+use Rattle.rp_installations.specs.Moves as installed
 use Rattle.rp_installations.specs.Outcomes.{applied_by}
-use Rattle.rp_installations.specs.Sites.{NodeSite, TaskSite, Installation, closed_over}
+use Rattle.rp_installations.specs.Sites.{NodeSite, TaskSite, Installation, closed_over, unopened_task, nothing_opened}
 use Rattle.rp_installations.proofs.Following.{from_nothing, moves_on}
 use Rattle.rp_possible.specs.Rounds.{AreWithinRound}
 use Rattle.rp_progress.specs.Waiting.{IsQuorum, IsPositionLeft, AreBallotsLeft, TaskHas, CanCount, next_of, records_in, applied_in}
 use Rattle.rp_progress.proofs.Going.{is_history}
 use Rattle.rp_progress.proofs.Restarting.{records_here}
-use Rattle.rp_progress_by_handle.specs.ByHandle.{AreOnDevices, IsTaskAt, HasLost, HasCounted, CanCountByHandle}
+use Rattle.rp_progress_by_handle.specs.ByHandle.{AreOnDevices, IsTaskAt, IsIdleAt, Open, Unopened, HasLost, HasCounted, CanCountByHandle}
 use Rattle.rp_progress_by_handle.proofs.Events.{whole_records, makes_all}
 use Rattle.rp_progress_by_handle.proofs.Level.{NodeLevel, OpenLevel, ClosedLevel, IsLevelNode, TaskLevel, returned, IsLevel}
 use Rattle.rp_progress_by_handle.proofs.NodeMoves.{opens_on}
@@ -221,3 +223,49 @@ module _ {S : Type 0} (s : Setting S) (image : S → List ℕ) (quorum : List �
         let idle : part.outstanding ≡ None = sym (ap (λ (c : Calls). c.outstanding) calls_are) ∙ outstanding in
         let made : calls.made ≡ length part.replies = ap (λ (c : Calls). c.made) calls_are ∙ ap (λ (o : Option Action). cond (is_some o) (suc (length part.replies)) (length part.replies)) idle in
         subst (Can (suc calls.made)) (sym lost.goes) (counts_by begins (suc calls.made) (ap suc made) (law world so_far part.replies (sym made) on_now.history (position_left i position) (ballots_left i round ballots) (has_task None outstanding)))
+
+  -- ---- a task that was never opened
+
+  then_one : (i j k : Installation S) (steps : List (Installation S)) → MachineMoves s.next s.answers image s.config s.begin i steps j → MachineMoves s.next s.answers image s.config s.begin j (k ∷ []) k → MachineMoves s.next s.answers image s.config s.begin i (steps ++ k ∷ []) k
+  then_one i j k [] same last = subst (λ (x : Installation S). MachineMoves s.next s.answers image s.config s.begin x (k ∷ []) k) same last
+  then_one i j k (middle ∷ rest) all last = (all.0, then_one middle j k rest all.1 last)
+
+  module _ (moves : List (Installation S)) (now : Installation S) (right : IsRightConfig s.config) (all : IsInstallation s.next s.answers image s.config s.begin moves now)
+      (records : ℕ → List Rec) (on : AreOnDevices now quorum records) (after : Installation S) (lost : HasLost now after) (i round : ℕ) (begins : List Event)
+      (position : IsPositionLeft s.config.max_positions records quorum i) (ballots : AreBallotsLeft records quorum leader i round) where
+    abbrev Law : Calls → Type 0
+    Law calls = (w : World) (events : List Event) (answers : List Answer) → length answers ≡ calls.made → IsHistory s events w → IsPositionLeft s.config.max_positions (records_in w) quorum i → AreBallotsLeft (records_in w) quorum leader i round → TaskHas w t answers None → CanCount s quorum leader t answers w begins
+
+    abbrev CanGoOn : Calls → List (List ℕ) → Installation S → Type 0
+    CanGoOn calls replies from = CanCountByHandle s.next s.answers image s.config s.begin quorum leader t (suc calls.made) replies from
+
+    -- it is opened
+    abbrev opened : TaskSite
+    opened = task_site (no_calls t) []
+
+    abbrev once_opened : Installation S → Installation S
+    once_opened x = record x { tasks = with_part x.tasks t opened; handed_on = x.handed_on ++ [] }
+
+    unopened : part_at now.tasks t ≡ Some unopened_task → Law (no_calls t) → CanGoOn (no_calls t) [] after
+    unopened here law =
+        let from : Installation S = record now { handed_on = after.handed_on } in
+        let lost_then : HasLost (once_opened now) (once_opened from) = record {
+          left = λ p has. has_left p now.handed_on [] (lost.left p (subst (λ (l : List (List ℕ)). Has p l) (append-nil after.handed_on) has));
+          goes = refl;
+        } in
+        let can = next_one (moves ++ once_opened now ∷ []) (once_opened now) right
+        (then_one (nothing_opened s.config.nodes) now (once_opened now) moves all (installed.Move.OfTask t unopened_task opened [] here (installed.TaskMove.Opened (record { once = refl; goes = refl }) refl) refl, refl))
+        records (record { each = on.each }) (once_opened from) lost_then (no_calls t) [] (record { site_is = put_there now.tasks t unopened_task opened here }) i round begins refl law position ballots in
+        let first : Moved from (once_opened from) = record {
+          moves = once_opened from ∷ [];
+          all = (installed.Move.OfTask t unopened_task opened [] here (installed.TaskMove.Opened (record { once = refl; goes = refl }) refl) refl, refl);
+          theirs = (record { nodes = λ y none. refl; tasks = λ u other. put_beside now.tasks t u opened other }, tt);
+        } in
+        subst (CanGoOn (no_calls t) []) (sym lost.goes)
+        (record { later = can.later; goes_on = goes_then s.next s.answers image s.config s.begin quorum t from (once_opened from) can.later first can.goes_on; counted = can.counted })
+
+    pub idle_one : (calls : Calls) (replies : List (List ℕ)) → IsIdleAt now t calls replies → Law calls → CanGoOn calls replies after
+    idle_one calls replies (Open task outstanding) law = next_one moves now right all records on after lost calls replies task i round begins outstanding law position ballots
+    idle_one calls replies (Unopened here none_made none) law =
+        subst (λ (l : List (List ℕ)). CanGoOn calls l after) (sym none)
+        (subst (λ (c : Calls). CanGoOn c [] after) (sym none_made) (unopened here (subst Law none_made law)))

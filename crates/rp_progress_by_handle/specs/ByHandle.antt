@@ -12,10 +12,10 @@ use Rattle.rp_model.specs.World.{part_at}
 use Rattle.rp_agreement.specs.Answered.{named}
 use Rattle.rp_world.specs.rp_store.specs.Records.{AreRecordsOf}
 use Rattle.rp_requests.specs.Nodes.{NodeState}
-use Rattle.rp_requests.specs.rp_tasks.specs.Calls.{Calls}
+use Rattle.rp_requests.specs.rp_tasks.specs.Calls.{Calls, no_calls}
 use Rattle.rp_installations.specs.Moves.{AnsweredRequest, Moves, OpensFrom, AnswersBy}
 use Rattle.rp_installations.specs.Outcomes.{IsOpenAt, applied_by}
-use Rattle.rp_installations.specs.Sites.{NodeSite, Installation}
+use Rattle.rp_installations.specs.Sites.{NodeSite, Installation, unopened_task}
 
 -- each of these nodes has these whole records among the bytes of its device that are synced
 pub record AreOnDevices {S : Type 0} (i : Installation S) (quorum : List ℕ)
@@ -28,6 +28,13 @@ pub record IsTaskAt {S : Type 0} (i : Installation S) (t : ℕ) (calls : Calls)
     (replies : List (List ℕ)) : Type 0 where
   pub site_is : part_at i.tasks t
       ≡ Some (record { task = Some calls; replies = replies })
+
+-- The task waits for none, and its handle keeps these calls; or it was never opened, and made none.
+pub data IsIdleAt {S : Type 0} (i : Installation S) (t : ℕ) (calls : Calls)
+    (replies : List (List ℕ)) : Type 0 where
+  Open : IsTaskAt i t calls replies → calls.outstanding ≡ None → IsIdleAt i t calls replies
+  Unopened : part_at i.tasks t ≡ Some unopened_task → calls ≡ no_calls t → replies ≡ []
+      → IsIdleAt i t calls replies
 
 -- The task has got this answer to its call of this number too, after these replies, and waits for
 -- none.

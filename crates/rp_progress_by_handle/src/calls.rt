@@ -1,6 +1,6 @@
 //! A call that a task by handle waits for, or makes next, can count, and can be answered.
 
-ghost use Rattle.std.specs.Prelude.{◌≡◌, ℕ, ℤ, suc, Some, None, List};
+ghost use Rattle.std.specs.Prelude.{◌≡◌, ℕ, ℤ, suc, Some, List};
 ghost use Rattle.rp_base.specs.Action.{IsRight};
 ghost use Rattle.rp_base.specs.Config.{IsRightConfig};
 ghost use Rattle.rp_base.specs.Majority.{AreNodes};
@@ -13,7 +13,7 @@ ghost use Rattle.rp_requests.specs.rp_tasks.specs.Calls.{Calls};
 ghost use Rattle.rp_installations.specs.Moves.{IsInstallation};
 ghost use Rattle.rp_installations.specs.Sites.{Installation};
 ghost use Rattle.rp_progress.specs.Waiting.{IsQuorum, IsPositionLeft, AreBallotsLeft};
-ghost use Rattle.rp_progress_by_handle.specs.ByHandle.{AreOnDevices, IsTaskAt, HasLost};
+ghost use Rattle.rp_progress_by_handle.specs.ByHandle.{AreOnDevices, IsTaskAt, IsIdleAt, HasLost};
 ghost use Rattle.rp_progress_by_handle.specs.ByHandle.{CanCountByHandle, CanBeAnsweredByHandle};
 
 use rp_installations::histories_keep_ranges;
@@ -73,11 +73,11 @@ pub fn a_call_by_handle_can_be_answered<M: Machine>()
     a_call_by_handle_can_count::<M>();
 }
 
-/// Whatever callers did with nodes and tasks by handle, by the rules, a task that is open and waits
-/// for nothing can make any right call next, and goes on as a task that waits.
+/// Whatever callers did with nodes and tasks by handle, by the rules, a task that waits for nothing,
+/// or that was never opened, can make any right call next, and goes on as a task that waits.
 pub fn a_task_by_handle_can_go_on<M: Machine>()
-    // claim: Whatever callers of nodes and tasks by handle did, by the rules, an open task that
-    //   waits for nothing can make any right call next, and it can count and be answered
+    // claim: Whatever callers of nodes and tasks by handle did, by the rules, a task that waits for
+    //   nothing, or was never opened, can make any right call next, and it can count and be answered
     ensures { (config : Config) (program : M.Program) (moves : List (Installation M))
         (now after : Installation M) (quorum : List ℕ) (leader i round t object : ℕ)
         (operation : Operation) (arg : ℤ) (records : ℕ → List Rec) (calls : Calls)
@@ -87,7 +87,7 @@ pub fn a_task_by_handle_can_go_on<M: Machine>()
         → IsQuorum config.nodes quorum leader → AreOnDevices now quorum records
         → IsPositionLeft config.max_positions records quorum i
         → AreBallotsLeft records quorum leader i round
-        → IsTaskAt now t calls replies → calls.outstanding ≡ None
+        → IsIdleAt now t calls replies
         → IsRight (Call t (suc calls.made) object operation arg)
         → HasLost now after
         → CanCountByHandle M.next M.answers M.image config (M.begin program) quorum leader t

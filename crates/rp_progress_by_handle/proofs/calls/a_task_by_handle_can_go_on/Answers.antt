@@ -4,14 +4,14 @@ use Rattle.rp_base.specs.Action.{IsRight}
 use Rattle.rp_base.specs.declared.action.Action.TheVariants.{Call}
 use Rattle.rp_model.specs.Events.{Submit}
 use Rattle.rp_agreement.specs.Answered.{setting_for}
-use Rattle.rp_progress_by_handle.proofs.Laws.{next_one}
+use Rattle.rp_progress_by_handle.proofs.Laws.{idle_one}
 use Rattle.rp_progress_by_handle.proofs.calls.a_task_by_handle_can_go_on.Goals as goal
 
 pub returns : goal.returns
-returns g c = λ config program moves now after quorum leader i round t object operation arg records calls replies right all is on position ballots task outstanding rights lost.
+returns g c = λ config program moves now after quorum leader i round t object operation arg records calls replies right all is on position ballots idle rights lost.
     let m = g.M.Machine in
     let s = setting_for m.next m.answers m.begin config program in
-    next_one s m.image quorum leader t is (c.histories_keep_ranges.ensures config program) c.node_requests_are_read_back.ensures.steps c.task_requests_are_read_back.ensures moves now right all records on after lost calls replies task i round
-    (Submit t leader object operation arg ∷ []) outstanding
-    (λ w events answers made history position ballots has. c.a_task_can_go_on.ensures config program events w quorum leader i round t object operation arg answers history is position ballots has
-    (subst (λ (n : ℕ). IsRight (Call t (suc n) object operation arg)) (sym made) rights)) position ballots
+    idle_one s m.image quorum leader t is (c.histories_keep_ranges.ensures config program) c.node_requests_are_read_back.ensures.steps c.task_requests_are_read_back.ensures moves now right all records on after lost i round
+    (Submit t leader object operation arg ∷ []) position ballots calls replies idle
+    (λ w events answers made history left more has. c.a_task_can_go_on.ensures config program events w quorum leader i round t object operation arg answers history is left more has
+    (subst (λ (n : ℕ). IsRight (Call t (suc n) object operation arg)) (sym made) rights))

@@ -114,9 +114,7 @@ unfolding asked_of asked_of_kind
 counted_is task right =
     ap (λ b. cond {A = Option Asked} b (Some (Counted task)) None) (both (nat_le 1 task) (nat_le task 8) (from_one task right.0) (up_to task 8 right.1))
 
-
 pub occurred_is : (source : ℕ) → IsIndex source → asked_of (occurred_text source) ≡ Some (Occurred source)
 unfolding asked_of asked_of_kind
 occurred_is source right =
     ap (λ b. cond {A = Option Asked} b (Some (Occurred source)) None) (both (nat_le 1 source) (nat_le source 8) (from_one source right.0) (up_to source 8 right.1))
-

@@ -66,8 +66,8 @@ module _ {S : Type 0} (next : S → Action → S) (answers : S → Action → Li
   -- bytes that name another kind bring no such call
   pub other_text : (bytes : List ℕ) → IsBytes bytes → kind_in bytes ≢ Some Call → comes_early next answers replica (packet_given (all_of bytes)) ≡ false
   other_text bytes are other = other_read (all_of bytes) (λ m read is.
-    let found = whole_found bytes (Ok m) are (sym read) in
-    other (text_kind m bytes found.1 ∙ ap (λ (kind : Kind). Some kind) is))
+      let found = whole_found bytes (Ok m) are (sym read) in
+      other (text_kind m bytes found.1 ∙ ap (λ (kind : Kind). Some kind) is))
 
   long_body : (body : Body) → IsLongBody body → kind_of_body body ≢ Call
   long_body (bodies.Report first applied actions) long = λ e. absurd (cc)

@@ -46,7 +46,7 @@ module _ {S : Type 0} (next : S → Action → S) (answers : S → Action → Li
   leads_on node =
       if led_last node.replica && nat_lt 0 (free_at next answers node)
       then near node.replica
-          (least_free node.replica.config.nodes node.replica.records node.replica.running.proposals)
+      (least_free node.replica.config.nodes node.replica.records node.replica.running.proposals)
       else None
 
   -- its number; how many actions it has applied, of how many positions; whether a position is

@@ -227,8 +227,8 @@ module _ {S : Type 0} (next : S → Action → S) (answers : S → Action → Li
   RequestAnswers (Some (Counted task)) old new before after result =
       (new ≡ old)
       × PutsOr [] (to_be_bytes w32 (last_number task (counted_at next answers old))) before after
-          result
+      result
   RequestAnswers (Some (Occurred source)) old new before after result =
       (new ≡ old)
       × PutsOr [] (to_be_bytes w32 (last_occurrence source (counted_at next answers old))) before
-          after result
+      after result

@@ -4,6 +4,7 @@ pub mod Noting
 pub mod Zips
 pub mod Reading
 mod Reporting
+mod Over
 pub mod Counting
 pub mod WholeRun
 mod Sums

@@ -67,5 +67,5 @@ module _ {S P : Type 0} (next : S → Action → S) (answers : S → Action → 
       let taken : (given : NodeInput) → given_by stop.input ≡ Ok given → IsTaken given = λ given is. note_taken stop.input given (subst IsNote (sym stop.is) note) is in
       elim stop.why [
         | inl cut ↦ stops_memory stop.input fault taken runs never (inl cut)
-        | inr other ↦ elim other [ inl none ↦ stops_memory stop.input fault taken runs never (inr none) | inr unsent ↦ unsent.memory ]
+        | inr none ↦ stops_memory stop.input fault taken runs never (inr none)
       ]

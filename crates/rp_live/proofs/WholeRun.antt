@@ -1,5 +1,5 @@
 -- A whole run, by its parts.
-use Rattle.std.proofs.Common.{◌≡◌, ◌≤◌, ◌+◌, ◌-◌, ℕ, suc, Bool, List, [], All, length, map, slice_get, sym, ap, subst, ◌∙◌, arith}
+use Rattle.std.proofs.Common.{◌≡◌, ◌≤◌, ◌+◌, ◌-◌, ℕ, suc, Bool, List, [], All, length, map, slice_get, inl, inr, ◌⊎◌, Option, Some, None, sym, ap, subst, ◌∙◌, arith}
 use Rattle.std.specs.Prelude.{IfSome, slice_index}
 use Rattle.std.specs.List.{AllZip}
 use Rattle.rp_threads.specs.rp_base.specs.Number.{IsTask}
@@ -19,7 +19,9 @@ use Rattle.rp_board.specs.Seats.{SeatSetup, SeatState}
 use Rattle.rp_boxes.specs.atomic_table.specs.Seated.{TableId}
 use Rattle.rp_boxes.specs.FirstSeats.{first_seat}
 use Rattle.rp_boxes.specs.Together.{IsTaskOf}
-use Rattle.rp_threads.specs.Rounds.{Runs}
+use Rattle.rp_threads.specs.Rounds.{IsCountedTurn, IsUncountedTurn, Runs}
+use Rattle.rp_threads.specs.TaskRounds.{IsTaskTurnOf, IsUnmadeTurn}
+use Rattle.rp_threads.specs.Loops.{total_of}
 use Rattle.rp_threads.specs.Tasks.{HasMade}
 use Rattle.rp_threads.specs.Threads.{IsLooped, IsTaskLooped}
 use Rattle.rp_threads.specs.declared.loops.NodeEnd.{NodeEnd}
@@ -28,27 +30,28 @@ use Rattle.rp_threads.specs.declared.tasks.TaskCall.{TaskCall}
 use Rattle.rp_live.specs.Calls.{CountsCalls}
 use Rattle.rp_live.specs.Events.{calls_at}
 use Rattle.rp_live.specs.Lines.{party_line}
-use Rattle.rp_live.specs.LiveOutcome.{HasRun, IsLiveRun, IsAudited, IsNodeEnd, IsTaskEnd}
-use Rattle.rp_live.specs.Pace.{paced, heard, over, ended}
+use Rattle.rp_live.specs.LiveOutcome.{HasRun, IsLiveRun, IsAudited, IsNodeEnd, IsNodeOver, IsTaskEnd, IsTaskOver, replies_at}
+use Rattle.rp_live.specs.Pace.{calm_turns, lets, heard, over, ended}
 use Rattle.rp_live.specs.Seats.{AreNumbered, HasAppliedAt, HasReportedSince, IsEndOfRun, StillRuns}
 use Rattle.rp_live.specs.declared.run.LiveOutcome.{LiveOutcome}
 use Rattle.rp_boxes.proofs.OneWorld.{made_at}
 use Rattle.rp_live.proofs.Counting.{counts_calls, so_far}
 use Rattle.rp_threads.proofs.NodeChains.{still_runs}
+use Rattle.rp_live.proofs.Over.{all_replied, node_over, own_cause, task_over}
 use Rattle.rp_live.proofs.Noting.{IsSame, all_noted}
 use Rattle.rp_live.proofs.Seating.{all_has, all_mapped, first_tables, member_at, some_then, zip_length}
-use Rattle.rp_live.proofs.Zips.{all_both, zip_all, zip_kinds, zip_places}
+use Rattle.rp_live.proofs.Zips.{all_both, zip_all, zip_kinds, zip_places, zip_so}
 
 -- ---- the loops of a run
 
 module _ {S P : Type 0} (next : S → Action → S) (answers : S → Action → List Answer) (begin : P → S) (config : Config) (events : List Event) (seed turns : ℕ) where
   -- the loops of what was ready to run
   pub node_loops_by : {A : Type 0} (noted : List (SeatState P)) (nodes : List (NodeEnd S Memory P)) (f : A → SeatState P) (g : A → Line) (starts : List A) (count : ℕ) → map f starts ≡ noted → All (λ s. g s ≡ party_line seed (Node (f s).setup.number)) starts
-      → count ≡ config.nodes → AllZip (λ s end. IsLooped next answers begin paced heard over ended count turns (f s) (g s) end) starts nodes → AllZip (IsNodeEnd next answers begin config events seed turns) noted nodes
+      → count ≡ config.nodes → AllZip (λ s end. IsLooped next answers begin lets heard over ended count turns (f s) (g s) end) starts nodes → AllZip (IsNodeEnd next answers begin config events seed turns) noted nodes
   node_loops_by noted nodes f g starts count is lines same zip =
       subst (λ (l : List (SeatState P)). AllZip (IsNodeEnd next answers begin config events seed turns) l nodes) is
-      (zip_kinds f g (λ seat. party_line seed (Node seat.setup.number)) (λ seat line end. IsLooped next answers begin paced heard over ended config.nodes turns seat line end) starts nodes lines
-      (subst (λ (n : ℕ). AllZip (λ s end. IsLooped next answers begin paced heard over ended n turns (f s) (g s) end) starts nodes) same zip))
+      (zip_kinds f g (λ seat. party_line seed (Node seat.setup.number)) (λ seat line end. IsLooped next answers begin lets heard over ended config.nodes turns seat line end) starts nodes lines
+      (subst (λ (n : ℕ). AllZip (λ s end. IsLooped next answers begin lets heard over ended n turns (f s) (g s) end) starts nodes) same zip))
 
   pub task_loops_by : {A : Type 0} (first_tasks : List (SeatState P)) (tasks : List (TaskEnd S P)) (f : A → SeatState P) (h : A → List TaskCall) (g : A → Line) (starts : List A) (count : ℕ) → map f starts ≡ first_tasks
       → All (λ s. h s ≡ calls_at events (f s).setup.number) starts → All (λ s. g s ≡ party_line seed (Task (f s).setup.number)) starts → count ≡ config.nodes
@@ -104,11 +107,35 @@ module _ {S P : Type 0} {next : S → Action → S} {answers : S → Action → 
       zip_places IsOfNumber (IsNodeEnd next answers begin config events seed turns) (λ place end. IsOfNumber place end.seat) (λ place seat end here ran. ap number_of ran.same ∙ here) whole.0.noted nodes before whole.0.node_loops
 
   pub nodes_ended : All IsEndOfRun nodes
-  nodes_ended = zip_all (λ seat. Runs seat.part) (IsNodeEnd next answers begin config events seed turns) IsEndOfRun (λ seat end run ran. (seat, (run, ran.cause))) whole.0.noted nodes whole.1 whole.0.node_loops
+  nodes_ended = zip_all (λ seat. Runs seat.part) (IsNodeEnd next answers begin config events seed turns) IsEndOfRun (λ seat end run ran. (seat, (run, own_cause seat end.seat (Node seat.setup.number) end.fault ran.cause))) whole.0.noted nodes whole.1 whole.0.node_loops
 
   pub nodes_still : All StillRuns nodes
   nodes_still = zip_all (λ seat. Runs seat.part) (IsNodeEnd next answers begin config events seed turns) StillRuns
-      (λ seat end run ran none. still_runs next answers begin paced heard config.nodes over turns seat (party_line seed (Node seat.setup.number)) ended end ran none run) whole.0.noted nodes whole.1 whole.0.node_loops
+      (λ seat end run ran none. still_runs next answers begin lets heard config.nodes over turns seat (party_line seed (Node seat.setup.number)) ended end ran none run) whole.0.noted nodes whole.1 whole.0.node_loops
+
+  -- ---- why the loops ended
+
+  node_is_over : (seat : SeatState P) (end : NodeEnd S Memory P) → IsNodeEnd next answers begin config events seed turns seat end → IsNodeOver next answers begin config events seed turns seat end
+  node_is_over seat end ran = record {
+    looped = ran;
+    why = λ none. elim (node_over (IsCountedTurn next answers begin lets heard config.nodes) (IsUncountedTurn next answers begin lets heard config.nodes) end.fault turns ran.ran.done ran.ran.before ran.last ran.ran.ends none) [
+      | inl all ↦ inl ((ran.counts none).counted ∙ all)
+      | inr rested ↦ inr rested
+    ];
+  }
+
+  task_is_over : (seat : SeatState P) (end : TaskEnd S P) → IsTaskEnd next answers begin config events seed turns seat end → IsTaskOver next answers begin config events seed turns seat end
+  task_is_over seat end ran = record {
+    looped = ran;
+    why = λ none. elim (task_over (calls_at events seat.setup.number) (IsTaskTurnOf next answers begin config.nodes (calls_at events seat.setup.number))
+    (IsUnmadeTurn next answers begin config.nodes (calls_at events seat.setup.number)) end.fault turns ran.ran.done ran.ran.before ran.last ran.ran.ends none) [
+      | inl all ↦ inl all
+      | inr replied ↦
+          let made : end.made ≡ ran.last.so_far.made = ap (λ (e : TaskEnd S P). e.made) ran.is in
+          let both = all_replied (calls_at events seat.setup.number) end.seat ran.last.so_far.made ran.last.so_far.waits (subst (λ (n : ℕ). HasMade (calls_at events seat.setup.number) end.seat n ran.last.so_far.waits) made ran.made) replied in
+          inr (made ∙ both.0, both.1 ∙ sym made)
+    ];
+  }
 
   -- each task made calls among the events
   abbrev HasCalls : TaskEnd S P → Type 0
@@ -116,7 +143,7 @@ module _ {S P : Type 0} {next : S → Action → S} {answers : S → Action → 
 
   tasks_made : All HasCalls tasks
   tasks_made = zip_all IsHere (IsTaskEnd next answers begin config events seed turns) HasCalls
-      (λ seat end here ran. (ran.made.0, subst (λ (n : ℕ). HasMade (calls_at events n) end.seat end.made ran.made.0) (sym (ap number_of ran.same)) ran.made.1)) whole.0.first_tasks tasks
+      (λ seat end here ran. (ran.last.so_far.waits, subst (λ (n : ℕ). HasMade (calls_at events n) end.seat end.made ran.last.so_far.waits) (sym (ap number_of ran.same)) ran.made)) whole.0.first_tasks tasks
       (first_tables audit.setup.table config program 8 [] whole.0.first_tasks whole.0.seats.tasks_are) whole.0.task_loops
 
   -- the task of each number has its end among them
@@ -141,6 +168,8 @@ module _ {S P : Type 0} {next : S → Action → S} {answers : S → Action → 
         tasks = tasks;
         ran = whole.0;
         stated = stated;
+        nodes_over = zip_so (IsNodeEnd next answers begin config events seed turns) (IsNodeOver next answers begin config events seed turns) node_is_over whole.0.noted nodes whole.0.node_loops;
+        tasks_over = zip_so (IsTaskEnd next answers begin config events seed turns) (IsTaskOver next answers begin config events seed turns) task_is_over whole.0.first_tasks tasks whole.0.task_loops;
         size = zip_length HasAppliedAt stated.last resulted.applied.items stated.applied
             ∙ zip_length HasReportedSince nodes stated.last stated.reported ∙ zip_length (IsNodeEnd next answers begin config events seed turns) whole.0.noted nodes whole.0.node_loops
             ∙ zip_length IsSame whole.0.first_nodes whole.0.noted (all_noted next answers begin events (length events) whole.0.first_nodes whole.0.noted whole.0.notes) ∙ whole.0.seats.size;

@@ -25,6 +25,13 @@ zip_all Q R T so (x ∷ xs) [] all zip = absurd zip
 zip_all Q R T so (x ∷ xs) (y ∷ ys) all zip =
     all_one T y ys (so x y (all 0 x (omega arith)) zip.0) (zip_all Q R T so xs ys (all_rest Q x xs all) zip.1)
 
+-- what is so of both is so of them by what follows
+pub zip_so : {A B : Type 0} (R T : A → B → Type 0) → ((x : A) (y : B) → R x y → T x y) → (xs : List A) (ys : List B) → AllZip R xs ys → AllZip T xs ys
+zip_so R T so [] [] zip = tt
+zip_so R T so [] (y ∷ ys) zip = absurd zip
+zip_so R T so (x ∷ xs) [] zip = absurd zip
+zip_so R T so (x ∷ xs) (y ∷ ys) zip = (so x y zip.0, zip_so R T so xs ys zip.1)
+
 -- what is so of the first list, place by place, is carried to the second
 pub zip_places : {A B : Type 0} (Q : ℕ → A → Type 0) (R : A → B → Type 0) (T : ℕ → B → Type 0) → ((k : ℕ) (x : A) (y : B) → Q k x → R x y → T k y)
     → (xs : List A) (ys : List B) → ((k : ℕ) → IfSome (slice_get xs k) (Q k)) → AllZip R xs ys → (k : ℕ) → IfSome (slice_get ys k) (T k)

@@ -4,7 +4,7 @@ use Rattle.rp_threads.specs.rp_base.specs.declared.fault.Fault.TheVariants.{OutO
 use Rattle.rp_threads.specs.declared.loops.NodeEnd.{NodeEnd}
 use Rattle.rp_threads.specs.declared.tasks.TaskEnd.{TaskEnd}
 
--- the loop of the node made all its turns, or those before the gate ended it
+-- no fault ended the loop of the node
 abbrev pub HadNoFault : {M D P : Type 0} → NodeEnd M D P → Type 0
 HadNoFault end = end.fault ≡ None
 

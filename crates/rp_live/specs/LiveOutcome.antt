@@ -1,5 +1,5 @@
 -- The result of a run in threads.
-use Rattle.std.specs.Prelude.{◌≡◌, ◌↔◌, ◌≤◌, ℕ, suc, true, All, IfSome, List, length, flat_map}
+use Rattle.std.specs.Prelude.{◌≡◌, ◌≢◌, ◌⊎◌, ◌↔◌, ◌-◌, ◌≤◌, ℕ, suc, true, None, All, IfSome, List, length, flat_map}
 use Rattle.std.specs.Prelude.{map, slice_get}
 use Rattle.std.specs.List.{AllZip}
 use Rattle.rp_threads.specs.rp_base.specs.Sets.{Has}
@@ -17,6 +17,7 @@ use Rattle.rp_boxes.specs.rp_agreement.specs.Answered.{named}
 use Rattle.rp_boxes.specs.Audits.{Audited, known_of}
 use Rattle.rp_boxes.specs.FirstSeats.{AreSeats}
 use Rattle.rp_boxes.specs.Together.{AreTogether}
+use Rattle.rp_threads.specs.Loops.{total_of}
 use Rattle.rp_threads.specs.Threads.{IsLooped, IsTaskLooped}
 use Rattle.rp_threads.specs.declared.loops.NodeEnd.{NodeEnd}
 use Rattle.rp_threads.specs.declared.tasks.TaskEnd.{TaskEnd}
@@ -26,7 +27,7 @@ use Rattle.rp_live.specs.Events.{calls_at}
 use Rattle.rp_live.specs.Figures.{figures_of}
 use Rattle.rp_live.specs.Lines.{party_line}
 use Rattle.rp_live.specs.Noted.{AreNoted}
-use Rattle.rp_live.specs.Pace.{paced, heard, over, ended}
+use Rattle.rp_live.specs.Pace.{calm_turns, lets, heard, over, ended}
 use Rattle.rp_live.specs.Seats.{HasAppliedAt, HasReportedSince, IsReadFrom}
 use Rattle.rp_live.specs.declared.run.LiveOutcome.{LiveOutcome}
 
@@ -45,7 +46,7 @@ module _ {S P : Type 0} (next : S → Action → S) (answers : S → Action → 
   -- the loop of the node at this seat, over the link of its party, had this end
   abbrev pub IsNodeEnd : SeatState P → NodeEnd S Memory P → Type 0
   IsNodeEnd seat end =
-      IsLooped next answers begin paced heard over ended config.nodes turns seat
+      IsLooped next answers begin lets heard over ended config.nodes turns seat
       (party_line seed (Node seat.setup.number)) end
 
   -- the loop of the task at this seat, with its calls and over the link of its party, had this end
@@ -54,6 +55,21 @@ module _ {S P : Type 0} (next : S → Action → S) (answers : S → Action → 
       IsTaskLooped next answers begin over ended config.nodes turns (calls_at events seat.setup.number)
       seat
       (party_line seed (Task seat.setup.number)) end
+
+  -- Why the loop of this node ended without a fault: it made all its turns, or nothing had happened
+  -- to the node for 128 turns, in which it looked into each of its boxes.
+  pub record IsNodeOver (seat : SeatState P) (end : NodeEnd S Memory P) : Type 0 where
+    pub looped : IsNodeEnd seat end
+    pub why : end.fault ≡ None → (total_of end.counts ≡ turns)
+        ⊎ (calm_turns ≤ looped.ran.done - looped.last.stirred)
+
+  -- Why the loop of this task ended without a fault: it made all its turns, or the task has made all
+  -- its calls and has the replies to them.
+  pub record IsTaskOver (seat : SeatState P) (end : TaskEnd S P) : Type 0 where
+    pub looped : IsTaskEnd seat end
+    pub why : end.fault ≡ None → (looped.ran.done ≡ turns)
+        ⊎ ((end.made ≡ length (calls_at events seat.setup.number))
+        × (length (replies_at end) ≡ end.made))
 
 module _ {S P : Type 0} (next : S → Action → S) (answers : S → Action → List Answer)
     (begin : P → S) where
@@ -93,7 +109,9 @@ module _ {S P : Type 0} (next : S → Action → S) (answers : S → Action → 
     pub agree : (outcome.agree ≡ true) ↔ KnowsAll known.known outcome.applied.items
     pub figures : outcome.figures ≡ figures_of nodes tasks
 
-  -- A whole run. In the one order the counted calls of each task are the calls among the events, in
+  -- A whole run. Each loop made all its turns, unless a fault ended it, or the run was over: then
+  -- each task has the replies to all its calls, and nothing had happened to any node for 128 turns.
+  -- In the one order the counted calls of each task are the calls among the events, in
   -- order, that it made; and each call that takes effect there is one that a task of the run made.
   pub record IsLiveRun (config : Config) (program : P) (events : List Event) (seed turns : ℕ)
       (outcome : LiveOutcome) : Type 0 where
@@ -102,6 +120,9 @@ module _ {S P : Type 0} (next : S → Action → S) (answers : S → Action → 
     pub tasks : List (TaskEnd S P)
     pub ran : HasRun config program events seed turns audit nodes tasks
     pub stated : IsAudited audit nodes tasks outcome
+    pub nodes_over : AllZip (IsNodeOver next answers begin config events seed turns) ran.noted nodes
+    pub tasks_over : AllZip (IsTaskOver next answers begin config events seed turns)
+        ran.first_tasks tasks
     pub size : length outcome.applied.items ≡ config.nodes
     pub calls : All (λ end.
         CountsCalls end.seat.setup.number (calls_at events end.seat.setup.number) end.made

@@ -1,6 +1,7 @@
--- Which turns of a run a node takes; it skips the others.
-use Rattle.std.specs.Prelude.{ℕ, Bool, not, Option}
+-- Which turns of a run a node takes, and when the run is over.
+use Rattle.std.specs.Prelude.{◌≡◌, ℕ, ◌≤◌, Bool, true, false, not, Option, Result, Ok, Err}
 use Rattle.rp_threads.specs.rp_base.specs.declared.fault.Fault.{Fault}
+use Rattle.rp_threads.specs.rp_base.specs.declared.fault.Fault.TheVariants.{OutOfMemory}
 use Rattle.rp_threads.specs.rp_codec.specs.declared.packet.Party.{Party}
 use Rattle.rp_threads.specs.Loops.{is_to_lead}
 
@@ -8,13 +9,25 @@ use Rattle.rp_threads.specs.Loops.{is_to_lead}
 abbrev pub paced : ℕ → ℕ → Bool
 paced number turn = not (is_to_lead number turn)
 
--- of its calls after a turn of a node, of its answers whether the run is over, and of its calls at
--- the end of a loop and where a thread is not started the gate states nothing
+-- so the gate answers
+abbrev pub lets : ℕ → ℕ → Bool → Type 0
+lets number turn passes = passes ≡ paced number turn
+
+-- in so many turns one after the other a node looks into each box that it ever empties
+abbrev pub calm_turns : ℕ
+calm_turns = 128
+
+-- the run is over for a node or a task only once it has rested for so many turns; it is stopped only
+-- because memory ran out, or a thread could not be started
+abbrev pub over : Party → ℕ → ℕ → Result Bool Fault → Type 0
+over actor turn rested (Ok true) = calm_turns ≤ rested
+over actor turn rested (Ok false) = Unit {0}
+over actor turn rested (Err fault) = fault ≡ OutOfMemory
+
+-- of its calls after a turn of a node, at the end of a loop and where a thread is not started nothing
+-- is stated
 abbrev pub heard : ℕ → ℕ → ℕ → Type 0
 heard number turn sent = Unit {0}
-
-abbrev pub over : Party → ℕ → Bool → Bool → Type 0
-over actor turn rests is_over = Unit {0}
 
 abbrev pub ended : Party → Option Fault → Type 0
 ended actor fault = Unit {0}

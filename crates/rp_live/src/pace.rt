@@ -2,7 +2,7 @@
 
 use rp_base::{Fault, MOST_NODES, MOST_TASKS, NodeId};
 use rp_codec::Party;
-use rp_threads::{Gate, is_to_lead};
+use rp_threads::{Ending, Gate, is_to_lead};
 use std::alloc::{AllocError, Global};
 use std::sync::atomic::{AtomicU64, Ordering};
 use std::time::{Clock, Duration, Instant};
@@ -74,16 +74,17 @@ impl Actor {
     }
 }
 
-/// The gate of a run. A node leads only by its patience: the turns in which its loop would have it
-/// lead at the least position that is free for it are skipped. The threads of all nodes and tasks
-/// keep pace, so that none has made all its turns while another needs it. Each publishes the number
-/// of its turn in every eighth turn, and one that is more than 16 turns ahead of the slowest waits
-/// for it. The turn of the slowest determines how many turns a thread may make before it looks
-/// again. Once a thread has waited too long, no thread waits any more. Nobody waits for a thread
-/// that ended.
+/// The gate of a run, which also decides when it is over. A node leads only by its patience: the
+/// turns in which its loop would have it lead at the least position that is free for it are skipped.
+/// The threads of all nodes and tasks keep pace, so that none has made all its turns while another
+/// needs it. Each publishes the number of its turn in every eighth turn, and one that is more than
+/// 16 turns ahead of the slowest waits for it. The turn of the slowest determines how many turns a
+/// thread may make before it looks again. Once a thread has waited too long, no thread waits any
+/// more. Nobody waits for a thread that ended.
 ///
-/// The run is over once nothing can happen any more (`conclude`), once memory ran out in a thread,
-/// and once a thread could not be started. It stays over.
+/// The run is over once nothing can happen any more (`conclude`), and then for each node and task
+/// that has rested for `CALM_TURNS` turns, as all of them then have. It is stopped once memory ran
+/// out in a thread, or a thread could not be started. It stays over, and stopped.
 #[derive(Drop)]
 pub(crate) struct Pace<'r, C: Clock> {
     clock: &'r C,
@@ -91,8 +92,10 @@ pub(crate) struct Pace<'r, C: Clock> {
     actors: Vec<Actor>,
     /// Not 0 once a thread has waited too long.
     free: AtomicU64,
-    /// Not 0 once the run is over.
+    /// Not 0 once nothing can happen any more.
     over: AtomicU64,
+    /// Not 0 once the run is stopped.
+    stopped: AtomicU64,
 }
 
 /// The place of a node or a task among the actors. The audit has none.
@@ -116,12 +119,23 @@ impl<'r, C: Clock> Pace<'r, C> {
             actors,
             free: AtomicU64::new(0),
             over: AtomicU64::new(0),
+            stopped: AtomicU64::new(0),
         })
     }
 
-    /// Whether the run is over.
-    fn has_ended(&self) -> bool {
+    /// Whether nothing can happen any more.
+    fn is_concluded(&self) -> bool {
         self.over.load(Ordering::SeqCst) != 0
+    }
+
+    /// Whether the run is stopped.
+    fn is_stopped(&self) -> bool {
+        self.stopped.load(Ordering::SeqCst) != 0
+    }
+
+    /// Whether no thread need wait for another any more.
+    fn is_free(&self) -> bool {
+        self.is_concluded() || self.is_stopped() || self.free.load(Ordering::SeqCst) != 0
     }
 
     /// Is called before the actor makes this turn, and waits if it is too far ahead.
@@ -189,7 +203,7 @@ impl<'r, C: Clock> Pace<'r, C> {
         }
     }
 
-    /// Waits until the slowest is near enough to this turn, or the run is over. Returns the turn in
+    /// Waits until the slowest is near enough to this turn, or no thread need wait. Returns the turn in
     /// which the thread is to look again.
     fn next_look(&self, actor: &Actor, turn: u64) -> u64 {
         for _ in 0..MOST_WAITS {
@@ -197,7 +211,7 @@ impl<'r, C: Clock> Pace<'r, C> {
             if turn <= farthest {
                 return farthest.saturating_add(1);
             }
-            if self.has_ended() || self.free.load(Ordering::SeqCst) != 0 {
+            if self.is_free() {
                 return turn.saturating_add(MOST_AHEAD);
             }
             self.wait(actor);
@@ -236,11 +250,21 @@ impl<'r, C: Clock> Pace<'r, C> {
 }
 
 impl<'r, C: Clock> Gate for Pace<'r, C> {
-    ghost use Rattle.rp_live.specs.Pace.{paced, heard, over, ended, stopped};
+    ghost use Rattle.rp_live.specs.Pace.{heard, lets};
 
-    ghost lets = { paced };
+    ghost lets = { lets };
 
     ghost heard = { heard };
+
+    fn before(&self, node: NodeId, turn: u64) -> bool {
+        !is_to_lead(node, turn)
+    }
+
+    fn after(&self, _node: NodeId, _turn: u64, _sent: usize) {}
+}
+
+impl<'r, C: Clock> Ending for Pace<'r, C> {
+    ghost use Rattle.rp_live.specs.Pace.{ended, over, stopped};
 
     ghost over = { over };
 
@@ -248,21 +272,18 @@ impl<'r, C: Clock> Gate for Pace<'r, C> {
 
     ghost stopped = { stopped };
 
-    fn is_over(&self, actor: Party, turn: u64, rests: bool) -> bool {
-        if self.has_ended() {
-            return true;
-        }
+    fn is_over(&self, actor: Party, turn: u64, rested: u64) -> Result<bool, Fault> {
         if let Some(actor) = self.actors.get(place_of(actor)) {
-            self.keep(actor, turn, rests);
+            self.keep(actor, turn, rested > 0);
         }
-        self.has_ended()
+        if self.is_stopped() {
+            return Err(Fault::OutOfMemory);
+        }
+        if rested >= CALM_TURNS && self.is_concluded() {
+            return Ok(true);
+        }
+        Ok(false)
     }
-
-    fn before(&self, node: NodeId, turn: u64) -> bool {
-        !is_to_lead(node, turn)
-    }
-
-    fn after(&self, _node: NodeId, _turn: u64, _sent: usize) {}
 
     fn end(&self, actor: Party, fault: Option<Fault>) {
         if let Some(actor) = self.actors.get(place_of(actor)) {
@@ -274,6 +295,6 @@ impl<'r, C: Clock> Gate for Pace<'r, C> {
     }
 
     fn stop(&self) {
-        self.over.store(1, Ordering::SeqCst);
+        self.stopped.store(1, Ordering::SeqCst);
     }
 }

@@ -90,8 +90,11 @@ where
     // claim (outcome): In a run of a whole program in threads all nodes and tasks have their seats
     //   at one table; the nodes note the interrupts and ticks among the events, in order; each node
     //   and task makes its turns over the link that the seed gives to it, the tasks with the calls
-    //   among the events, up to the number of turns asked for or until the gate says that the run
-    //   is over
+    //   among the events: all turns that are asked for, or those before the run is over
+    // claim (outcome): In a run with a result each task has made all its calls and has the replies to
+    //   them, or its loop made all turns that were asked for, or it ended at a call that the task may
+    //   not make; each node's loop made all turns that were asked for, or nothing had happened to
+    //   the node for 128 turns
     // claim (outcome): After the loops each node reports to the audit what it has applied, first
     //   from position 1 and each time after that from the position after those that the audit knows
     //   of it by then, until all is known or a report adds nothing; then all look at the table as
@@ -107,8 +110,8 @@ where
     // claim (outcome): The figures of a run in threads are sums over the ends of the loops: calls
     //   made, replies, packets counted as lost and turns in which nodes led; and the greatest turn
     //   of a last reply
-    // claim (outcome): A run in threads has a result only if each node's loop made all its turns or
-    //   was ended by the gate, and no task's loop ran out of memory
+    // claim (outcome): A run in threads has a result only if no fault ended a node's loop, and no
+    //   task's loop ran out of memory or was stopped
     // claim (only): The only fault that ends a run in threads is `OutOfMemory`
     ensures outcome { IfOk result (IsLiveRun M.next M.answers M.begin
         options.config program.now events.now options.seed options.turns) }
@@ -126,6 +129,7 @@ where
     let loops = LoopOptions {
         alloc,
         gate: &pace,
+        ending: &pace,
         turns: options.turns,
     };
     let (nodes, tasks) = run_threads(rt, nodes, tasks, loops)?;

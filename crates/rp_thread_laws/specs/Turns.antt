@@ -11,7 +11,7 @@ IsAmongTurns first count Is = (turn : ℕ) × (first ≤ turn) × (turn < first 
 
 -- a turn of this kind that was made, of whose packets n are lost
 abbrev pub turned : Turn → ℕ → Option TurnResult
-turned turn lost = Some (record { turn = turn; packets = record { sent = lost; lost = lost } })
+turned turn lost = Some (record { turn = turn; packets = record { sent = lost; lost = lost; uncopied = 0 } })
 
 -- the counts after these turns, of which the first in the list was the last
 abbrev pub counts_after : List (Option TurnResult) → Counts

@@ -188,8 +188,8 @@ task_end_send M P m s =
 
 -- ---- the options of a loop
 
-pub options_send : (κ : NamedLft) (G : RattleType) → IsSync G → IsSend (LoopOptions.the_row κ G)
-options_send κ G s = search (crosses, sendable, heap.the_field_send) depth 40 fits 20000
+pub options_send : (κ : NamedLft) (G E : RattleType) → IsSync G → IsSync E → IsSend (LoopOptions.the_row κ G E)
+options_send κ G E s t = search (crosses, sendable, heap.the_field_send) depth 40 fits 20000
 
 -- ---- what a closure captures
 

@@ -15,7 +15,7 @@ use Rattle.rp_boxes.specs.NodeSeats.{IsStopped, IsTurn, IsCutTurn, IsNoTurn}
 use Rattle.rp_threads.specs.Lines.{given_on}
 use Rattle.rp_threads.specs.Loops.{events_made, events_of, is_refusal}
 use Rattle.rp_threads.specs.Rounds.{WorkerAt, IsIdleTurn, IsLeadAnew, IsMade, IsOwnUnmade, IsUnmade, IsMadeOrSkipped, Runs}
-use Rattle.rp_threads.specs.Turns.{MayFetch, IsReceipt, IsEventBy, IsUnsent, IsStopBy, Works, Fails, IsLead, IsNodeTurn, turn_of}
+use Rattle.rp_threads.specs.Turns.{MayFetch, IsReceipt, IsEventBy, IsStopBy, Works, Fails, IsLead, IsNodeTurn, turn_of}
 use Rattle.rp_threads.specs.declared.turns.PacketCounts.{PacketCounts}
 use Rattle.rp_threads.specs.declared.turns.Turn.{Turn}
 use Rattle.rp_threads.specs.declared.turns.Turn.TheVariants.{Received, Led, Idle}
@@ -24,7 +24,7 @@ use Rattle.rp_threads.proofs.Puts.{HasOnlyPut}
 use Rattle.rp_threads.proofs.Refusals.{GivesNoRange, lead_no_range, reason, receipt_no_range}
 use Rattle.rp_threads.proofs.Rounds.{IsIdle}
 use Rattle.rp_threads.proofs.Running.{not_stopped, turn_runs}
-use Rattle.rp_threads.proofs.Steps.{event_puts, unsent_puts, stepped_same}
+use Rattle.rp_threads.proofs.Steps.{event_puts, stepped_same}
 
 -- The same seat, n events later. No call of its device failed, and its node runs as before.
 pub record IsLater {P : Type 0} (old new : SeatState P) (n : ℕ) : Type 0 where
@@ -128,16 +128,13 @@ module _ {S P : Type 0} (next : S → Action → S) (answers : S → Action → 
   no_turn old new fault input none (inr (inr refused)) = inr (inr (inr (refused, later_same old new none.unchanged)))
 
   left_by : (old new : SeatState P) (input : Input) (fault : Fault) → GivesNoRange input
-      → IsCutTurn next answers begin old input new fault ⊎ (IsNoTurn next answers begin old input new fault ⊎ IsUnsent next answers begin old input new fault) → IsLeft old new fault
+      → IsCutTurn next answers begin old input new fault ⊎ IsNoTurn next answers begin old input new fault → IsLeft old new fault
   left_by old new input fault small (inl cut) = record { same = ap (λ (c : SeatState P). c.setup) cut.after; cause = inl (cut.device, cut.failed) }
-  left_by old new input fault small (inr (inl none)) = record {
+  left_by old new input fault small (inr none) = record {
     same = ap (λ (c : SeatState P). c.setup) none.unchanged;
     cause = no_turn old new fault input none
         (reason (setting_at next answers begin old) old.setup.number none.node none.given none.node.running fault (small none.given none.gives) none.why);
   }
-  left_by old new input fault small (inr (inr unsent)) =
-      let later = stepped_later old unsent.stepped new input unsent.sent unsent.turn (unsent_puts next answers begin old new input fault unsent) in
-      record { same = later.same; cause = inr (inr (inl (unsent.memory, later.failures))) }
 
   stop_left : (Is : Input → Type 0) (old new : SeatState P) (fault : Fault) → ((input : Input) → Is input → GivesNoRange input) → IsStopBy next answers begin Is old new fault → IsLeft old new fault
   stop_left Is old new fault small s = left_by old new s.input fault (small s.input s.is) s.why
@@ -198,7 +195,7 @@ module _ {S P : Type 0} (next : S → Action → S) (answers : S → Action → 
         (stop_left (IsLeadAnew next answers begin anew.between) anew.between new.seat fault (λ input is. lead_no_range (Some is.0) input is.2) anew.stops)
 
     -- a turn that is made or skipped
-    pub turned_later : (heard : ℕ → Type 0) (passes : Bool) (made : Option TurnResult) → IsMadeOrSkipped next answers begin from lead old new heard passes made → IsLater old.seat new.seat (events_made made)
+    pub turned_later : (heard : ℕ → Type 0) (passes : Bool → Type 0) (made : Option TurnResult) → IsMadeOrSkipped next answers begin from lead old new heard passes made → IsLater old.seat new.seat (events_made made)
     turned_later heard passes (Some turned) made = made_later turned made.1
     turned_later heard passes None (inl skipped) = later_same old.seat new.seat (ap (λ (w : WorkerAt P). w.seat) skipped.1)
     turned_later heard passes None (inr refused) = refused_later old.seat new.seat refused.1 refused.2 (unmade_left refused.1 refused.3).cause
@@ -207,6 +204,6 @@ module _ {S P : Type 0} (next : S → Action → S) (answers : S → Action → 
     made_idle turned (inl own) idle = not_led (given_on own.turn.full) lead turned.turn own.turn.turn idle
     made_idle turned (inr anew) idle = let clash : Led ≡ Idle = sym anew.0 ∙ idle in absurd (cc)
 
-    pub turned_idle : (heard : ℕ → Type 0) (passes : Bool) (made : Option TurnResult) → IsMadeOrSkipped next answers begin from lead old new heard passes made → IsIdle made → lead ≡ false
+    pub turned_idle : (heard : ℕ → Type 0) (passes : Bool → Type 0) (made : Option TurnResult) → IsMadeOrSkipped next answers begin from lead old new heard passes made → IsIdle made → lead ≡ false
     turned_idle heard passes (Some turned) made is = made_idle turned made.1 is
     turned_idle heard passes None skipped is = absurd is

@@ -105,9 +105,9 @@ module _ {S P : Type 0} (next : S → Action → S) (answers : S → Action → 
 
 -- ---- the turn of a worker with its number
 
-module _ {S P : Type 0} (next : S → Action → S) (answers : S → Action → List Answer) (begin : P → S) (lets : ℕ → ℕ → Bool) (nodes turn number : ℕ) (old new : WorkerAt P) (is : number ≡ old.seat.setup.number) where
-  pub turn_passes : (passes : Bool) → passes ≡ lets number turn → passes ≡ true → lets old.seat.setup.number turn ≡ true
-  turn_passes passes answer holds = sym (answer ∙ ap (λ (n : ℕ). lets n turn) is) ∙ holds
+module _ {S P : Type 0} (next : S → Action → S) (answers : S → Action → List Answer) (begin : P → S) (lets : ℕ → ℕ → Bool → Type 0) (nodes turn number : ℕ) (old new : WorkerAt P) (is : number ≡ old.seat.setup.number) where
+  pub answer_is : (passes is_so : Bool) → lets number turn passes → passes ≡ is_so → lets old.seat.setup.number turn is_so
+  answer_is passes is_so answer same = subst (λ (n : ℕ). lets n turn is_so) is (subst (lets number turn) same answer)
 
   pub unmade_at : (from : Party) (lead : Bool) (fault : Fault) → from ≡ sender_at nodes turn → lead ≡ is_to_lead number turn → IsUnmade next answers begin from lead old new fault
       → IsUnmade next answers begin (sender_at nodes turn) (is_to_lead old.seat.setup.number turn) old new fault

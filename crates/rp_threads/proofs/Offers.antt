@@ -2,7 +2,6 @@
 use Rattle.std.proofs.Common.{◌≡◌, ◌≢◌, ℕ, ◌+◌, ◌-◌, ◌≤◌, Bool, true, false, if◌then◌else◌, Result, Ok, Err, List, [], ◌∷◌, ◌++◌, length, take, drop, inl, inr, refl, sym, ap, subst, ◌∙◌, arith, append_assoc}
 use Rattle.std.proofs.lemmas.List.{append-nil, length-drop, take-append-drop}
 use Rattle.std.specs.Int.{from_bool}
-use Rattle.std.specs.Prelude.{IfOk, OnErr}
 use Rattle.rp_base.specs.Sets.{Has}
 use Rattle.rp_base.specs.declared.action.Action.{Action}
 use Rattle.rp_base.specs.declared.reply.Answer.{Answer}
@@ -15,7 +14,9 @@ use Rattle.rp_replica.specs.declared.sent.Sent.{Sent}
 use Rattle.rp_replica.specs.rp_outbox.proofs.Joined.{texts_append}
 use Rattle.rp_board.specs.Parts.{Part}
 use Rattle.rp_board.specs.Seats.{SeatState, IsSentText}
-use Rattle.rp_threads.specs.Turns.{AreGivenOut, AreOffered, AreOfferedInPart, AreSent, AreSentTexts, AreTextsOffered, AreTextsOfferedInPart, IsAllOffered, IsOfferedToBox, IsOfferedInPart}
+use Rattle.rp_threads.specs.Turns.{AreGivenOut, AreOffered, AreSent, AreSentTexts, AreTextsOffered, HasFate, IsAllOffered, IsOfferedToBox, is_lost, is_uncopied, one_if}
+use Rattle.rp_threads.specs.declared.sends.Fate.{Fate}
+use Rattle.rp_threads.specs.declared.sends.Fate.TheVariants.{Put, InUse}
 use Rattle.rp_threads.proofs.Puts.{HasOnlyPut, offers_put}
 
 -- ---- one packet
@@ -45,15 +46,11 @@ same_packets one (p ∷ ps) (q ∷ qs) right_p right_q same =
     let rest : ps ≡ qs = same_packets one ps qs (λ m has. right_p m (inr has)) (λ m has. right_q m (inr has)) both.1 in
     cc
 
--- how many packets are lost, of one
-abbrev pub one_if : Bool → ℕ
-one_if is_lost = if is_lost then 1 else 0
-
-pub one_if_is : (is_lost : Bool) → from_bool is_lost ≡ one_if is_lost
+pub one_if_is : (holds : Bool) → from_bool holds ≡ one_if holds
 one_if_is true = refl
 one_if_is false = refl
 
-pub one_at_most : (is_lost : Bool) → one_if is_lost ≤ 1
+pub one_at_most : (holds : Bool) → one_if holds ≤ 1
 one_at_most true = omega arith
 one_at_most false = omega arith
 
@@ -69,36 +66,40 @@ still_sent_text {P} old new text puts sent = subst (λ (s : SeatState P). IsSent
 
 module _ {S P : Type 0} (next : S → Action → S) (answers : S → Action → List Answer) (begin : P → S) (from : Party) where
   -- these packets and then others
-  then_offered : (ps qs : List Message) (old between new : SeatState P) (a b : ℕ) → AreOffered next answers begin from ps old between a → AreOffered next answers begin from qs between new b
-      → AreOffered next answers begin from (ps ++ qs) old new (a + b)
-  then_offered [] qs old between new a b first following =
+  then_offered : (ps qs : List Message) (old between new : SeatState P) (a b c d : ℕ) → AreOffered next answers begin from ps old between a c → AreOffered next answers begin from qs between new b d
+      → AreOffered next answers begin from (ps ++ qs) old new (a + b) (c + d)
+  then_offered [] qs old between new a b c d first following =
       let none = first.1 in
+      let without = first.2 in
       let same : b ≡ a + b = omega (arith, none) in
-      subst (λ (n : ℕ). AreOffered next answers begin from qs old new n) same (subst (λ (s : SeatState P). AreOffered next answers begin from qs s new b) first.0 following)
-  then_offered (p ∷ ps) qs old between new a b first following =
-      let sum = first.5 in
-      (first.0, first.1 + b, first.2, first.3, then_offered ps qs first.2 between new first.1 b first.4 following, omega (arith, sum))
+      let alike : d ≡ c + d = omega (arith, without) in
+      subst (λ (n : ℕ). AreOffered next answers begin from qs old new n (c + d)) same
+      (subst (λ (n : ℕ). AreOffered next answers begin from qs old new b n) alike (subst (λ (s : SeatState P). AreOffered next answers begin from qs s new b d) first.0 following))
+  then_offered (p ∷ ps) qs old between new a b c d first following =
+      let sum = first.6 in
+      let without = first.7 in
+      (first.0, first.1 + b, first.2 + d, first.3, first.4, then_offered ps qs first.3 between new first.1 b first.2 d first.5 following, omega (arith, sum), omega (arith, without))
 
   -- one packet
-  one_text_offered : (bytes : List ℕ) (m : Message) (old new : SeatState P) (is_lost : Bool) → bytes ≡ text_of m → IsOfferedToBox next answers begin from bytes old new is_lost
-      → AreOffered next answers begin from (m ∷ []) old new (one_if is_lost)
-  one_text_offered bytes m old new is_lost text offered =
-      (is_lost, 0, new, subst (λ (t : List ℕ). IsOfferedToBox next answers begin from t old new is_lost) text offered, (refl, refl), omega arith)
+  one_text_offered : (bytes : List ℕ) (m : Message) (old new : SeatState P) (fate : Fate) → bytes ≡ text_of m → HasFate next answers begin from bytes old new fate
+      → AreOffered next answers begin from (m ∷ []) old new (one_if (is_lost fate)) (one_if (is_uncopied fate))
+  one_text_offered bytes m old new fate text offered =
+      (fate, 0, 0, new, subst (λ (t : List ℕ). HasFate next answers begin from t old new fate) text offered, (refl, refl, refl), omega arith, omega arith)
 
   -- ---- one packet after the other
 
-  -- What was offered of the bytes, up to what is left, and how many packets of it are lost.
-  pub record IsPartOffered (first now : SeatState P) (bytes left : List ℕ) (lost : ℕ) : Type 0 where
+  -- What was offered of the bytes, up to what is left, and how many packets of it are lost, and for want of a copy.
+  pub record IsPartOffered (first now : SeatState P) (bytes left : List ℕ) (lost uncopied : ℕ) : Type 0 where
     pub packets : List Message
     pub whole : bytes ≡ texts_of packets ++ left
     pub sent : (m : Message) → Has m packets → Has m first.part.sent
-    pub offered : AreOffered next answers begin from packets first now lost
+    pub offered : AreOffered next answers begin from packets first now lost uncopied
 
-  pub none_offered : (seat : SeatState P) (bytes : List ℕ) → IsPartOffered seat seat bytes bytes 0
-  none_offered seat bytes = record { packets = []; whole = refl; sent = λ m has. absurd has; offered = (refl, refl) }
+  pub none_offered : (seat : SeatState P) (bytes : List ℕ) → IsPartOffered seat seat bytes bytes 0 0
+  none_offered seat bytes = record { packets = []; whole = refl; sent = λ m has. absurd has; offered = (refl, refl, refl) }
 
-  pub part_puts : (first now : SeatState P) (bytes left : List ℕ) (lost : ℕ) → IsPartOffered first now bytes left lost → HasOnlyPut first now
-  part_puts first now bytes left lost so_far = offers_put next answers begin from so_far.packets first now lost so_far.offered
+  pub part_puts : (first now : SeatState P) (bytes left : List ℕ) (lost uncopied : ℕ) → IsPartOffered first now bytes left lost uncopied → HasOnlyPut first now
+  part_puts first now bytes left lost uncopied so_far = offers_put next answers begin from so_far.packets first now lost uncopied so_far.offered
 
   either_sent : (part : Part) (ps qs : List Message) → ((m : Message) → Has m ps → Has m part.sent) → ((m : Message) → Has m qs → Has m part.sent) → (m : Message) → Has m (ps ++ qs) → Has m part.sent
   either_sent part ps qs first following m has = elim (has_split m ps qs has) [ inl here ↦ first m here | inr there ↦ following m there ]
@@ -114,13 +115,14 @@ module _ {S P : Type 0} (next : S → Action → S) (answers : S → Action → 
       whole ∙ ap (λ (t : List ℕ). texts_of packets ++ t) (sym (take-append-drop len left)) ∙ sym (append_assoc (texts_of packets) (take len left) (drop len left))
       ∙ ap (λ (t : List ℕ). t ++ drop len left) texts
 
-  pub one_more_offered : (first between now : SeatState P) (bytes left : List ℕ) (len lost : ℕ) (is_lost : Bool) → IsPartOffered first between bytes left lost → IsSentText first.part (take len left)
-      → IsOfferedToBox next answers begin from (take len left) between now is_lost → IsPartOffered first now bytes (drop len left) (lost + one_if is_lost)
-  one_more_offered first between now bytes left len lost is_lost so_far text offered = record {
+  pub one_more_offered : (first between now : SeatState P) (bytes left : List ℕ) (len lost uncopied : ℕ) (fate : Fate) → IsPartOffered first between bytes left lost uncopied → IsSentText first.part (take len left)
+      → HasFate next answers begin from (take len left) between now fate → IsPartOffered first now bytes (drop len left) (lost + one_if (is_lost fate)) (uncopied + one_if (is_uncopied fate))
+  one_more_offered first between now bytes left len lost uncopied fate so_far text offered = record {
     packets = so_far.packets ++ text.0 ∷ [];
     whole = cut_at bytes left len so_far.packets text.0 so_far.whole text.2;
     sent = either_sent first.part so_far.packets (text.0 ∷ []) so_far.sent (alone_sent first.part text.0 text.1);
-    offered = then_offered so_far.packets (text.0 ∷ []) first between now lost (one_if is_lost) so_far.offered (one_text_offered (take len left) text.0 between now is_lost text.2 offered);
+    offered = then_offered so_far.packets (text.0 ∷ []) first between now lost (one_if (is_lost fate)) uncopied (one_if (is_uncopied fate)) so_far.offered
+        (one_text_offered (take len left) text.0 between now fate text.2 offered);
   }
 
   nothing_left : (left : List ℕ) → length left ≡ 0 → left ≡ []
@@ -128,8 +130,9 @@ module _ {S P : Type 0} (next : S → Action → S) (answers : S → Action → 
   nothing_left (x ∷ left) none = absurd (omega (arith, none))
 
   -- each was offered
-  pub all_offered : (first now : SeatState P) (bytes left : List ℕ) (lost : ℕ) → IsPartOffered first now bytes left lost → length left ≡ 0 → AreTextsOffered next answers begin from bytes first now lost
-  all_offered first now bytes left lost so_far none = record {
+  pub all_offered : (first now : SeatState P) (bytes left : List ℕ) (lost uncopied : ℕ) → IsPartOffered first now bytes left lost uncopied → length left ≡ 0
+      → AreTextsOffered next answers begin from bytes first now lost uncopied
+  all_offered first now bytes left lost uncopied so_far none = record {
     are = record {
       packets = so_far.packets;
       texts = so_far.whole ∙ ap (λ (t : List ℕ). texts_of so_far.packets ++ t) (nothing_left left none) ∙ append-nil (texts_of so_far.packets);
@@ -138,42 +141,50 @@ module _ {S P : Type 0} (next : S → Action → S) (answers : S → Action → 
     offered = so_far.offered;
   }
 
-  cut_before : (first now : SeatState P) (bytes left : List ℕ) (lost : ℕ) (rest : List Message) → IsPartOffered first now bytes left lost → left ≡ texts_of rest
-      → ((m : Message) → Has m rest → Has m first.part.sent) → length left ≢ 0 → AreTextsOfferedInPart next answers begin from bytes first now
-  cut_before first now bytes left lost [] so_far is sent some = absurd (some (ap length is))
-  cut_before first now bytes left lost (m ∷ others) so_far is sent some = record {
-    are = record {
-      packets = so_far.packets ++ m ∷ others;
-      texts = so_far.whole ∙ ap (λ (t : List ℕ). texts_of so_far.packets ++ t) is ∙ sym (texts_append so_far.packets (m ∷ others));
-      sent = either_sent first.part so_far.packets (m ∷ others) so_far.sent sent;
-    };
-    offered = record { offered = so_far.packets; unsent = m; others = others; whole = refl; lost = lost; are = so_far.offered };
-  }
-
-  -- one is left that was not offered
-  pub offered_in_part : (first now : SeatState P) (bytes left : List ℕ) (lost : ℕ) → IsPartOffered first now bytes left lost → AreSentTexts first.part left → length left ≢ 0
-      → AreTextsOfferedInPart next answers begin from bytes first now
-  offered_in_part first now bytes left lost so_far sent some = cut_before first now bytes left lost sent.packets so_far sent.texts sent.sent some
-
   -- ---- those of a step
 
-  alone : (bytes : List ℕ) (old new : SeatState P) (is_lost : Bool) → IsOfferedToBox next answers begin from bytes old new is_lost → (packets : List Message) → bytes ≡ texts_of packets → 1 ≡ length packets
-      → AreOffered next answers begin from packets old new (one_if is_lost)
-  alone bytes old new is_lost offered [] texts one = absurd (omega (arith, one))
-  alone bytes old new is_lost offered (p ∷ []) texts one = one_text_offered bytes p old new is_lost (texts ∙ append-nil (text_of p)) offered
-  alone bytes old new is_lost offered (p ∷ q ∷ packets) texts one = absurd (omega (arith, one))
+  alone : (bytes : List ℕ) (old new : SeatState P) (fate : Fate) → HasFate next answers begin from bytes old new fate → (packets : List Message) → bytes ≡ texts_of packets → 1 ≡ length packets
+      → AreOffered next answers begin from packets old new (one_if (is_lost fate)) (one_if (is_uncopied fate))
+  alone bytes old new fate offered [] texts one = absurd (omega (arith, one))
+  alone bytes old new fate offered (p ∷ []) texts one = one_text_offered bytes p old new fate (texts ∙ append-nil (text_of p)) offered
+  alone bytes old new fate offered (p ∷ q ∷ packets) texts one = absurd (omega (arith, one))
 
   -- the one packet was offered
-  pub one_is_offered : (sent : Sent) (old new : SeatState P) (is_lost : Bool) → sent.packets ≡ 1 → IsOfferedToBox next answers begin from sent.bytes.items old new is_lost
-      → IsAllOffered next answers begin from sent old new (one_if is_lost)
-  one_is_offered sent old new is_lost one offered packets given = alone sent.bytes.items old new is_lost offered packets given.texts (sym one ∙ given.count)
+  pub one_is_offered : (sent : Sent) (old new : SeatState P) (fate : Fate) → is_uncopied fate ≡ false → sent.packets ≡ 1 → HasFate next answers begin from sent.bytes.items old new fate
+      → IsAllOffered next answers begin from sent old new (one_if (is_lost fate)) 0
+  one_is_offered sent old new fate copied one offered packets given =
+      subst (λ (b : Bool). AreOffered next answers begin from packets old new (one_if (is_lost fate)) (one_if b)) copied
+      (alone sent.bytes.items old new fate offered packets given.texts (sym one ∙ given.count))
 
-  no_packet : (seat : SeatState P) (packets : List Message) → 0 ≡ length packets → AreOffered next answers begin from packets seat seat 0
-  no_packet seat [] none = (refl, refl)
+  -- it went into its box, or found it in use
+  abbrev fate_of : Bool → Fate
+  fate_of true = InUse
+  fate_of false = Put
+
+  box_fate : (bytes : List ℕ) (old new : SeatState P) (lost : Bool) → IsOfferedToBox next answers begin from bytes old new lost → HasFate next answers begin from bytes old new (fate_of lost)
+  box_fate bytes old new true offered = offered
+  box_fate bytes old new false offered = offered
+
+  fate_copied : (lost : Bool) → is_uncopied (fate_of lost) ≡ false
+  fate_copied true = refl
+  fate_copied false = refl
+
+  fate_lost : (lost : Bool) → is_lost (fate_of lost) ≡ lost
+  fate_lost true = refl
+  fate_lost false = refl
+
+  pub one_is_put : (sent : Sent) (old new : SeatState P) (lost : Bool) → sent.packets ≡ 1 → IsOfferedToBox next answers begin from sent.bytes.items old new lost
+      → IsAllOffered next answers begin from sent old new (one_if lost) 0
+  one_is_put sent old new lost one offered =
+      subst (λ (b : Bool). IsAllOffered next answers begin from sent old new (one_if b) 0) (fate_lost lost)
+      (one_is_offered sent old new (fate_of lost) (fate_copied lost) one (box_fate sent.bytes.items old new lost offered))
+
+  no_packet : (seat : SeatState P) (packets : List Message) → 0 ≡ length packets → AreOffered next answers begin from packets seat seat 0 0
+  no_packet seat [] none = (refl, refl, refl)
   no_packet seat (p ∷ packets) none = absurd (omega (arith, none))
 
   -- there was none
-  pub none_is_offered : (sent : Sent) (seat : SeatState P) → sent.packets ≡ 0 → IsAllOffered next answers begin from sent seat seat 0
+  pub none_is_offered : (sent : Sent) (seat : SeatState P) → sent.packets ≡ 0 → IsAllOffered next answers begin from sent seat seat 0 0
   none_is_offered sent seat none packets given = no_packet seat packets (sym none ∙ given.count)
 
   module _ (one : OneText) (sent : Sent) (old new : SeatState P) (right : (m : Message) → Has m old.part.sent → IsPacket m) where
@@ -182,20 +193,6 @@ module _ {S P : Type 0} (next : S → Action → S) (answers : S → Action → 
     same_as packets given are = same_packets one packets are.packets (λ p is. right p (given.sent_all p is)) (λ p is. right p (are.sent p is)) (sym given.texts ∙ are.texts)
 
     -- each was offered, one after the other
-    all_are_offered : (lost : ℕ) → AreTextsOffered next answers begin from sent.bytes.items old new lost → IsAllOffered next answers begin from sent old new lost
-    all_are_offered lost offered packets given =
-        subst (λ (ps : List Message). AreOffered next answers begin from ps old new lost) (sym (same_as packets given offered.are)) offered.offered
-
-    pub all_if_offered : {E : Type 0} (result : Result ℕ E) → IfOk result (AreTextsOffered next answers begin from sent.bytes.items old new) → IfOk result (IsAllOffered next answers begin from sent old new)
-    all_if_offered (Ok lost) offered = all_are_offered lost offered
-    all_if_offered (Err e) offered = tt
-
-    -- not all were offered
-    not_all_offered : AreTextsOfferedInPart next answers begin from sent.bytes.items old new → IsOfferedInPart next answers begin from sent old new
-    not_all_offered offered packets given =
-        subst (λ (ps : List Message). AreOfferedInPart next answers begin from ps old new) (sym (same_as packets given offered.are)) offered.offered
-
-    pub not_all_if_part : {A E : Type 0} (result : Result A E) → OnErr result (AreTextsOfferedInPart next answers begin from sent.bytes.items old new)
-        → OnErr result (IsOfferedInPart next answers begin from sent old new)
-    not_all_if_part (Ok x) part = tt
-    not_all_if_part (Err e) part = not_all_offered part
+    pub all_are_offered : (lost uncopied : ℕ) → AreTextsOffered next answers begin from sent.bytes.items old new lost uncopied → IsAllOffered next answers begin from sent old new lost uncopied
+    all_are_offered lost uncopied offered packets given =
+        subst (λ (ps : List Message). AreOffered next answers begin from ps old new lost uncopied) (sym (same_as packets given offered.are)) offered.offered

@@ -1,5 +1,5 @@
 -- What is offered changes at the seat what its actor put, and nothing else.
-use Rattle.std.proofs.Common.{◌≡◌, ℕ, Bool, true, false, List, [], ◌∷◌, ◌++◌, sym, ap, subst, ◌∙◌}
+use Rattle.std.proofs.Common.{◌≡◌, ℕ, Bool, true, false, List, [], ◌∷◌, ◌++◌, refl, sym, ap, subst, ◌∙◌}
 use Rattle.rp_base.specs.declared.action.Action.{Action}
 use Rattle.rp_base.specs.declared.reply.Answer.{Answer}
 use Rattle.rp_codec.specs.Message.{Message}
@@ -7,7 +7,9 @@ use Rattle.rp_codec.specs.Text.{text_of}
 use Rattle.rp_codec.specs.declared.packet.Party.{Party}
 use Rattle.rp_board.specs.Moments.{WasInUse, WasPut}
 use Rattle.rp_board.specs.Seats.{SeatState, IsPut}
-use Rattle.rp_threads.specs.Turns.{AreOffered, IsOfferedToBox}
+use Rattle.rp_threads.specs.Turns.{AreOffered, HasFate, IsOfferedToBox}
+use Rattle.rp_threads.specs.declared.sends.Fate.{Fate}
+use Rattle.rp_threads.specs.declared.sends.Fate.TheVariants.{Put, InUse, NoMemory}
 
 -- The seat is the same in all but the packets that its actor put.
 pub record HasOnlyPut {P : Type 0} (old new : SeatState P) : Type 0 where
@@ -38,7 +40,12 @@ module _ {S P : Type 0} (next : S → Action → S) (answers : S → Action → 
   offer_puts text old new false offered = record { put = old.part.put ++ offered.0.packet ∷ []; after = offered.0.after }
   offer_puts text old new true offered = none_put old new offered.0
 
-  pub offers_put : (packets : List Message) (old new : SeatState P) (lost : ℕ) → AreOffered next answers begin from packets old new lost → HasOnlyPut old new
-  offers_put [] old new lost are = none_put old new are.0
-  offers_put (m ∷ others) old new lost are =
-      put_on old are.2 new (offer_puts (text_of m) old are.2 are.0 are.3) (offers_put others are.2 new are.1 are.4)
+  fate_puts : (text : List ℕ) (old new : SeatState P) (fate : Fate) → HasFate next answers begin from text old new fate → HasOnlyPut old new
+  fate_puts text old new Put offered = offer_puts text old new false offered
+  fate_puts text old new InUse offered = offer_puts text old new true offered
+  fate_puts text old new NoMemory same = none_put old new same
+
+  pub offers_put : (packets : List Message) (old new : SeatState P) (lost uncopied : ℕ) → AreOffered next answers begin from packets old new lost uncopied → HasOnlyPut old new
+  offers_put [] old new lost uncopied are = none_put old new are.0
+  offers_put (m ∷ others) old new lost uncopied are =
+      put_on old are.3 new (fate_puts (text_of m) old are.3 are.0 are.4) (offers_put others are.3 new are.1 are.2 are.5)

@@ -1,5 +1,5 @@
 -- The steps of a turn: what each leaves of the seat, and what they are together.
-use Rattle.std.proofs.Common.{◌≡◌, ◌⊎◌, ℕ, Bool, Option, Some, Result, Ok, Err, List, length, inl, inr, refl, sym, ap, subst, ◌∙◌}
+use Rattle.std.proofs.Common.{◌≡◌, ◌⊎◌, ℕ, ◌≤◌, Bool, Option, Some, Result, Ok, Err, List, length, inl, inr, refl, sym, ap, subst, ◌∙◌}
 use Rattle.std.specs.Prelude.{IfOk, IfErr}
 use Rattle.rp_base.specs.Sets.{Has}
 use Rattle.rp_base.specs.declared.action.Action.{Action}
@@ -17,7 +17,7 @@ use Rattle.rp_tasks.specs.Line.{Line}
 use Rattle.rp_board.specs.Parts.{Part, Role, OfNode, part_after}
 use Rattle.rp_board.specs.Seats.{SeatState}
 use Rattle.rp_boxes.specs.NodeSeats.{IsTurn}
-use Rattle.rp_threads.specs.Turns.{IsBrought, IsLost, turn_of, IsReceipt, AreGivenOut, AreSent, IsAllOffered, IsOfferedInPart, IsEventBy, IsUnsent, IsStopBy, Works, Fails, IsNodeTurn, IsStoppedTurn}
+use Rattle.rp_threads.specs.Turns.{IsBrought, IsLost, turn_of, IsReceipt, AreGivenOut, AreSent, IsAllOffered, IsEventBy, IsStopBy, Works, Fails, IsNodeTurn, IsStoppedTurn}
 use Rattle.rp_threads.specs.Lines.{given_on, line_after}
 use Rattle.rp_threads.specs.declared.turns.PacketCounts.{PacketCounts}
 use Rattle.rp_threads.specs.declared.turns.TurnResult.{TurnResult}
@@ -50,10 +50,10 @@ module _ {S P : Type 0} (next : S → Action → S) (answers : S → Action → 
   -- ---- an event
 
   -- by this input, once its packets were offered
-  pub event_by : (old stepped new : SeatState P) (input : Input) (sent : Sent) (lost : ℕ) → IsTurn next answers begin old input stepped sent
-      → IsAllOffered next answers begin (Node stepped.setup.number) sent stepped new lost
-      → IsEventBy next answers begin (λ given. given ≡ input) old new (record { sent = sent.packets; lost = lost })
-  event_by old stepped new input sent lost turn offered = record {
+  pub event_by : (old stepped new : SeatState P) (input : Input) (sent : Sent) (lost uncopied : ℕ) → IsTurn next answers begin old input stepped sent
+      → IsAllOffered next answers begin (Node stepped.setup.number) sent stepped new lost uncopied → (sent.packets ≤ 1 → uncopied ≡ 0)
+      → IsEventBy next answers begin (λ given. given ≡ input) old new (record { sent = sent.packets; lost = lost; uncopied = uncopied })
+  event_by old stepped new input sent lost uncopied turn offered alone = record {
     input = input;
     is = refl;
     stepped = stepped;
@@ -61,23 +61,12 @@ module _ {S P : Type 0} (next : S → Action → S) (answers : S → Action → 
     turn = turn;
     stated = refl;
     offered = offered turn.done.sends (all_given_out old stepped input sent turn);
-  }
-
-  -- memory ran out before all of them were offered
-  pub unsent_by : (old stepped new : SeatState P) (input : Input) (sent : Sent) → IsTurn next answers begin old input stepped sent
-      → IsOfferedInPart next answers begin (Node stepped.setup.number) sent stepped new → IsStopBy next answers begin (λ given. given ≡ input) old new OutOfMemory
-  unsent_by old stepped new input sent turn part = record {
-    input = input;
-    is = refl;
-    why = inr (inr (record { memory = refl; stepped = stepped; sent = sent; turn = turn; offered = part turn.done.sends (all_given_out old stepped input sent turn) }));
+    alone = alone;
   }
 
   -- the packets of an event change at the seat what was put alone
   pub event_puts : (Is : Input → Type 0) (old new : SeatState P) (packets : PacketCounts) (e : IsEventBy next answers begin Is old new packets) → HasOnlyPut e.stepped new
-  event_puts Is old new packets e = offers_put next answers begin (Node e.stepped.setup.number) e.turn.done.sends e.stepped new packets.lost e.offered
-
-  pub unsent_puts : (old new : SeatState P) (input : Input) (fault : Fault) (u : IsUnsent next answers begin old input new fault) → HasOnlyPut u.stepped new
-  unsent_puts old new input fault u = offers_put next answers begin (Node u.stepped.setup.number) u.offered.offered u.stepped new u.offered.lost u.offered.are
+  event_puts Is old new packets e = offers_put next answers begin (Node e.stepped.setup.number) e.turn.done.sends e.stepped new packets.lost packets.uncopied e.offered
 
   pub event_got : (Is : Input → Type 0) (old new : SeatState P) (packets : PacketCounts) → IsEventBy next answers begin Is old new packets → new.part.got ≡ old.part.got
   event_got Is old new packets e = stepped_got (OfNode e.turn.done.part) e.turn.done.sends old e.stepped new e.turn.after (event_puts Is old new packets e)
@@ -88,10 +77,7 @@ module _ {S P : Type 0} (next : S → Action → S) (answers : S → Action → 
   pub stop_got : (Is : Input → Type 0) (old new : SeatState P) (fault : Fault) → IsStopBy next answers begin Is old new fault → new.part.got ≡ old.part.got
   stop_got Is old new fault s = elim s.why [
     | inl cut ↦ ap (λ (c : SeatState P). c.part.got) cut.after
-    | inr other ↦ elim other [
-      | inl none ↦ ap (λ (c : SeatState P). c.part.got) none.unchanged
-      | inr unsent ↦ stepped_got (OfNode unsent.turn.done.part) unsent.turn.done.sends old unsent.stepped new unsent.turn.after (unsent_puts old new s.input fault unsent)
-    ]
+    | inr none ↦ ap (λ (c : SeatState P). c.part.got) none.unchanged
   ]
 
   -- ---- the work of a turn
@@ -101,7 +87,7 @@ module _ {S P : Type 0} (next : S → Action → S) (answers : S → Action → 
       → IsEventBy next answers begin (λ i. i ≡ input) old new packets → Works next answers begin given lead old new packets
   received given text lead input old new packets is receipt e =
       subst (λ (o : Option (List ℕ)). Works next answers begin o lead old new packets) (sym is)
-      (record { input = e.input; is = subst (IsReceipt text) (sym e.is) receipt; stepped = e.stepped; sent = e.sent; turn = e.turn; stated = e.stated; offered = e.offered })
+      (record { input = e.input; is = subst (IsReceipt text) (sym e.is) receipt; stepped = e.stepped; sent = e.sent; turn = e.turn; stated = e.stated; offered = e.offered; alone = e.alone })
 
   -- ---- what was brought, and the work after it
 

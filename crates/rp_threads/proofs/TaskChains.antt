@@ -1,5 +1,5 @@
 -- The turns of a task's loop, one after the other: what calls they made, and why one is not made.
-use Rattle.std.proofs.Common.{◌≡◌, ℕ, zero, suc, ◌+◌, ◌%◌, ◌/◌, ◌<◌, ◌≤◌, ◌||◌, not, nat_eq, nat_lt, Bool, true, false, Option, Some, None, Ok, Err, List, [], ◌∷◌, length, is_some, slice_get, inl, inr, refl, sym, ap, subst, ◌∙◌, arith, if◌then◌else◌}
+use Rattle.std.proofs.Common.{◌≡◌, ℕ, zero, suc, ◌+◌, ◌%◌, ◌/◌, ◌<◌, ◌≤◌, ◌||◌, not, nat_eq, nat_lt, Bool, true, false, Option, Some, None, Result, Ok, Err, ◌⊎◌, List, [], ◌∷◌, length, is_some, slice_get, inl, inr, refl, sym, ap, subst, ◌∙◌, arith, if◌then◌else◌}
 use Rattle.std.proofs.lemmas.Grind.{common_steps}
 use Rattle.std.proofs.lemmas.Nat.{mod_below}
 use Rattle.std.specs.Prelude.{IfSome}
@@ -17,15 +17,15 @@ use Rattle.rp_tasks.specs.Line.{Line}
 use Rattle.rp_board.specs.Parts.{OfTask, fresh_part}
 use Rattle.rp_board.specs.Seats.{SeatSetup, SeatState}
 use Rattle.rp_threads.specs.Lines.{given_on, line_after}
-use Rattle.rp_threads.specs.LoopTurns.{HasEnded}
+use Rattle.rp_threads.specs.LoopTurns.{HasEnded, IsAsked, IsNeverOver, IsStoppedBy}
 use Rattle.rp_threads.specs.Loops.{node_at}
 use Rattle.rp_threads.specs.Tasks.{HasMade, TaskAt, before_calls, call_after, task_party}
-use Rattle.rp_threads.specs.TaskRounds.{Asks, Hears, IsHeard, IsTaskRefused, IsTaskFault, IsTaskTurnOf, IsUnmadeTurn, untaken, unheard, unasked, asked_by, asked_for, asked_in, heard_by, made_by, submitted, task_rests, with_call, with_lost}
+use Rattle.rp_threads.specs.TaskRounds.{Asks, Hears, IsHeard, IsTaskRefused, IsTaskFault, IsTaskTurnOf, IsUnmadeTurn, untaken, unheard, unasked, asked_by, asked_for, asked_in, heard_by, made_by, submitted, task_rested, with_call, with_lost}
 use Rattle.rp_threads.specs.Threads.{IsTaskLooped, task_end_of}
 use Rattle.rp_threads.specs.Turns.{IsBrought, IsLost, MayFetch}
 use Rattle.rp_threads.specs.declared.tasks.Calls.{Calls}
 use Rattle.rp_threads.specs.declared.tasks.TaskCall.{TaskCall}
-use Rattle.rp_threads.proofs.Chains.{by_end}
+use Rattle.rp_threads.proofs.Chains.{by_end, made_all}
 use Rattle.rp_threads.proofs.TaskSteps.{again_made, asked_puts, asked_same, call_made, fetched_made, heard_made, none_made, put_made, same_task}
 
 no_first : (xs : List TaskCall) → 0 < length xs → slice_get xs 0 ≡ None → ⊥
@@ -51,11 +51,11 @@ pub record HasMadeCalls {P : Type 0} (calls : List TaskCall) (seat : SeatState P
   pub first : 0 < length calls → 0 < n → 0 < now.so_far.made
 
 -- What a loop that made n turns and ended by this fault, or without one, leaves of the seat.
-pub record IsLeftBy {P : Type 0} (nodes : ℕ) (calls : List TaskCall) (seat : SeatState P) (n : ℕ) (last : TaskAt P) (fault : Option Fault) : Type 0 where
+pub record IsLeftBy {P : Type 0} (over : Party → ℕ → ℕ → Result Bool Fault → Type 0) (nodes : ℕ) (calls : List TaskCall) (seat : SeatState P) (n : ℕ) (last : TaskAt P) (fault : Option Fault) : Type 0 where
   pub same : last.seat.setup ≡ seat.setup
   pub made : HasMade calls last.seat last.so_far.made last.so_far.waits
   pub first : fault ≡ None → 0 < length calls → 0 < n → 0 < last.so_far.made
-  pub cause : IfSome fault (IsTaskFault nodes calls seat last.so_far.made)
+  pub cause : IfSome fault (λ f. IsTaskFault nodes calls seat last.so_far.made f ⊎ IsStoppedBy over (Task seat.setup.number) f)
 
 -- ---- what is heard
 
@@ -258,38 +258,51 @@ module _ {S P : Type 0} (next : S → Action → S) (answers : S → Action → 
 
     -- ---- ends of loops
 
-    whole_left : (seat : SeatState P) (n : ℕ) (now : TaskAt P) → HasMadeCalls calls seat n now → IsLeftBy nodes calls seat n now None
-    whole_left seat n now has = record { same = has.same; made = has.made; first = λ none. has.first; cause = tt }
+    some_fault : (f : Fault) → Some f ≡ None → ⊥
+    some_fault f is = cc
 
-    stopped_left : 1 ≤ nodes → (seat : SeatState P) (n : ℕ) (before last : TaskAt P) (fault : Fault) → HasMadeCalls calls seat n before → IsNoTurn (suc n) before last fault → IsLeftBy nodes calls seat n last (Some fault)
-    stopped_left some seat n before last fault has none =
-        let left = unmade_on (suc n) seat before last fault has.same has.made some none in
-        record { same = left.0; made = left.1; first = λ none. absurd (some_fault fault none); cause = left.2 }
-      where
-        some_fault : (f : Fault) → Some f ≡ None → ⊥
-        some_fault f is = cc
+    module _ (over : Party → ℕ → ℕ → Result Bool Fault → Type 0) where
+      whole_left : (seat : SeatState P) (n : ℕ) (now : TaskAt P) → HasMadeCalls calls seat n now → IsLeftBy over nodes calls seat n now None
+      whole_left seat n now has = record { same = has.same; made = has.made; first = λ none. has.first; cause = tt }
 
-    module _ (over : Party → ℕ → Bool → Bool → Type 0) (turns : ℕ) (seat : SeatState P) (line : Line) (fresh : seat.part ≡ fresh_part (OfTask fresh_task)) where
-      abbrev Ended : TaskAt P → Option Fault → Type 0
-      Ended last fault = HasEnded over task_party (task_rests calls) IsTurn IsNoTurn turns (before_calls seat line) last fault
+      halted_left : (seat : SeatState P) (n : ℕ) (now : TaskAt P) (fault : Fault) → HasMadeCalls calls seat n now → IsAsked over task_party (task_rested calls) IsTurn n now (Err fault)
+          → IsLeftBy over nodes calls seat n now (Some fault)
+      halted_left seat n now fault has answer = record {
+        same = has.same;
+        made = has.made;
+        first = λ none. absurd (some_fault fault none);
+        cause = inr (suc n, task_rested calls n now, subst (λ (s : SeatSetup P). over (Task s.number) (suc n) (task_rested calls n now) (Err fault)) has.same answer);
+      }
 
-      none_turned : HasMadeCalls calls seat 0 (before_calls seat line)
-      none_turned = record { same = refl; made = none_made calls seat fresh; first = λ some more. absurd (omega (arith, more)) }
+      stopped_left : 1 ≤ nodes → (seat : SeatState P) (n : ℕ) (before last : TaskAt P) (fault : Fault) → HasMadeCalls calls seat n before → IsNoTurn (suc n) before last fault
+          → IsLeftBy over nodes calls seat n last (Some fault)
+      stopped_left some seat n before last fault has none =
+          let left = unmade_on (suc n) seat before last fault has.same has.made some none in
+          record { same = left.0; made = left.1; first = λ none. absurd (some_fault fault none); cause = inl left.2 }
 
-      pub task_looped : {M : Type 0} (notifies : Party → Option Fault → Type 0) → 1 ≤ nodes → (last : TaskAt P) (fault : Option Fault) → Ended last fault → notifies (task_party last) fault
-          → IsTaskLooped {M = M} next answers begin over notifies nodes turns calls seat line (task_end_of last fault)
-      task_looped notifies some last fault ended notified =
-          let left = by_end over task_party (task_rests calls) IsTurn IsNoTurn (HasMadeCalls calls seat) (IsLeftBy nodes calls seat) (one_turned seat) (whole_left seat) (stopped_left some seat) turns (before_calls seat line) last fault none_turned ended in
-          record {
-            last = last;
-            is = refl;
-            ran = ended;
-            same = left.same;
-            notified = subst (λ (s : SeatSetup P). notifies (Task s.number) fault) left.same notified;
-            made = (last.so_far.waits, left.made);
-            first = left.first;
-            cause = left.cause;
-          }
+      module _ (turns : ℕ) (seat : SeatState P) (line : Line) (fresh : seat.part ≡ fresh_part (OfTask fresh_task)) where
+        abbrev Ended : TaskAt P → Option Fault → Type 0
+        Ended last fault = HasEnded over task_party (task_rested calls) IsTurn IsNoTurn turns (before_calls seat line) last fault
+
+        none_turned : HasMadeCalls calls seat 0 (before_calls seat line)
+        none_turned = record { same = refl; made = none_made calls seat fresh; first = λ some more. absurd (omega (arith, more)) }
+
+        pub task_looped : {M : Type 0} (notifies : Party → Option Fault → Type 0) → 1 ≤ nodes → (last : TaskAt P) (fault : Option Fault) → Ended last fault → notifies (task_party last) fault
+            → IsTaskLooped {M = M} next answers begin over notifies nodes turns calls seat line (task_end_of last fault)
+        task_looped notifies some last fault ended notified =
+            let left = by_end over task_party (task_rested calls) IsTurn IsNoTurn (HasMadeCalls calls seat) (IsLeftBy over nodes calls seat) (one_turned seat) (whole_left seat) (halted_left seat) (stopped_left some seat)
+            turns (before_calls seat line) last fault none_turned ended in
+            record {
+              last = last;
+              is = refl;
+              ran = ended;
+              same = left.same;
+              notified = subst (λ (s : SeatSetup P). notifies (Task s.number) fault) left.same notified;
+              made = left.made;
+              first = left.first;
+              whole = λ never none. made_all over task_party (task_rested calls) IsTurn IsNoTurn turns (before_calls seat line) last fault never none ended;
+              cause = left.cause;
+            }
 
 -- ---- one turn, by its steps
 

@@ -242,12 +242,12 @@ module _ {P : Type 0} (old new : SeatState P) (sent : Sent) where
 -- ---- what is asked, once its packet was offered
 
 module _ {S P : Type 0} (next : S → Action → S) (answers : S → Action → List Answer) (begin : P → S) (input : TaskInput) where
-  pub asked_by_turn : (old stepped new : SeatState P) (sent : Sent) (lost : ℕ) → IsTaskTurn old input stepped sent → IsAllOffered next answers begin (Task stepped.setup.number) sent stepped new lost
+  pub asked_by_turn : (old stepped new : SeatState P) (sent : Sent) (lost : ℕ) → IsTaskTurn old input stepped sent → IsAllOffered next answers begin (Task stepped.setup.number) sent stepped new lost 0
       → IsAskedBy next answers begin input old new lost
   asked_by_turn old stepped new sent lost turn offered = record { stepped = stepped; sent = sent; turn = turn; offered = offered turn.done.sends (asked_out old stepped input sent turn) }
 
   pub asked_puts : (old new : SeatState P) (lost : ℕ) (a : IsAskedBy next answers begin input old new lost) → HasOnlyPut a.stepped new
-  asked_puts old new lost a = offers_put next answers begin (Task a.stepped.setup.number) a.turn.done.sends a.stepped new lost a.offered
+  asked_puts old new lost a = offers_put next answers begin (Task a.stepped.setup.number) a.turn.done.sends a.stepped new lost 0 a.offered
 
   pub asked_same : (old new : SeatState P) (lost : ℕ) → IsAskedBy next answers begin input old new lost → new.setup ≡ old.setup
   asked_same old new lost a = stepped_same (OfTask a.turn.done.part) a.turn.done.sends old a.stepped new a.turn.after (asked_puts old new lost a)

@@ -1,7 +1,8 @@
 -- The turns of a node's loop: each is the turn of its node, and if that is idle the node may lead
 -- with a new ballot.
-use Rattle.std.specs.Prelude.{◌≡◌, ◌≢◌, ◌⊎◌, ℕ, ◌+◌, ◌<◌, ◌≤◌, nat_lt, Bool, true, false}
+use Rattle.std.specs.Prelude.{◌≡◌, ◌≢◌, ◌⊎◌, ℕ, ◌+◌, ◌-◌, ◌<◌, ◌≤◌, nat_lt, Bool, true, false}
 use Rattle.std.specs.Prelude.{◌&&◌, not, Option, Some, None, IsSome, List, length}
+use Rattle.std.specs.Prelude.{if◌then◌else◌}
 use Rattle.rp_base.specs.declared.action.Action.{Action}
 use Rattle.rp_base.specs.declared.fault.Fault.{Fault}
 use Rattle.rp_base.specs.declared.fault.Fault.TheVariants.{OutOfMemory, Device, Failed}
@@ -109,8 +110,7 @@ module _ {S P : Type 0} (next : S → Action → S) (answers : S → Action → 
       pub leads : IsEventBy next answers begin (IsLeadAnew next answers begin between) between
           new.seat packets
 
-    -- The step in which it was then to lead was cut, or was no event, or not all of its packets
-    -- were offered.
+    -- The step in which it was then to lead was cut, or was no event.
     pub record IsStoppedAnew (fault : Fault) : Type 0 where
       pub between : SeatState P
       pub first : IsIdleTurn between
@@ -134,11 +134,11 @@ module _ {S P : Type 0} (next : S → Action → S) (answers : S → Action → 
 
     -- a turn that was made, or skipped: by the gate, or because the node was refused to lead.
     -- Unless the gate skips the turn, the gate is notified how many packets were sent in it
-    abbrev pub IsMadeOrSkipped : (ℕ → Type 0) → Bool → Option TurnResult → Type 0
-    IsMadeOrSkipped heard passes (Some turned) =
-        (passes ≡ true) × IsMade turned × heard turned.packets.sent
-    IsMadeOrSkipped heard passes None = ((passes ≡ false) × (new ≡ old))
-        ⊎ ((passes ≡ true) × (fault : Fault) × (is_refusal fault ≡ true) × IsUnmade fault × heard 0)
+    abbrev pub IsMadeOrSkipped : (ℕ → Type 0) → (Bool → Type 0) → Option TurnResult → Type 0
+    IsMadeOrSkipped heard lets (Some turned) =
+        lets true × IsMade turned × heard turned.packets.sent
+    IsMadeOrSkipped heard lets None = (lets false × (new ≡ old))
+        ⊎ (lets true × (fault : Fault) × (is_refusal fault ≡ true) × IsUnmade fault × heard 0)
 
 -- Whether a node rests after a turn: nothing happened in it, and nothing is pending at the node.
 pub record RestsAfter (made : Option TurnResult) (part : Part) (rests : Bool) : Type 0 where
@@ -149,32 +149,33 @@ pub record RestsAfter (made : Option TurnResult) (part : Part) (rests : Bool) : 
   pub is : rests ≡ (not pending && is_uneventful made)
 
 -- the state of a node's loop: of its worker, how many turns of each kind it made, how many packets
--- these lost at boxes, and whether the node rests
+-- these lost at boxes, and the last turn after which the node did not rest
 pub record NodeAt (P : Type 0) : Type 0 where
   pub worker : WorkerAt P
   pub counts : Counts
-  pub rests : Bool
+  pub stirred : ℕ
 
 abbrev pub node_state : {M D P : Type 0} → NodeLoop M D P → NodeAt P
 node_state node = record {
   worker = worker_at node.worker;
   counts = node.counts;
-  rests = node.rests;
+  stirred = node.stirred;
 }
 
 -- who it is, as the gate knows it
 abbrev pub node_party : {P : Type 0} → NodeAt P → Party
 node_party now = Node now.worker.seat.setup.number
 
-abbrev pub node_rests : {P : Type 0} → NodeAt P → Bool
-node_rests now = now.rests
+-- for how many turns, up to this one, it has rested
+abbrev pub node_rested : {P : Type 0} → ℕ → NodeAt P → ℕ
+node_rested done now = done - now.stirred
 
 -- before its first turn
 abbrev pub before_turns : {P : Type 0} → SeatState P → Line → NodeAt P
 before_turns seat line = record {
   worker = record { seat = seat; line = line; patience = fresh_wait 0 };
   counts = no_turns;
-  rests = false;
+  stirred = 0;
 }
 
 -- Why a node's loop may end before its last turn: out of memory; its device failed in that turn; or
@@ -186,7 +187,7 @@ IsNodeFault first last Failed = IsStopped first.part
 IsNodeFault first last _ = ⊥
 
 module _ {S P : Type 0} (next : S → Action → S) (answers : S → Action → List Answer)
-    (begin : P → S) (lets : ℕ → ℕ → Bool) (heard : ℕ → ℕ → ℕ → Type 0)
+    (begin : P → S) (lets : ℕ → ℕ → Bool → Type 0) (heard : ℕ → ℕ → ℕ → Type 0)
     (nodes : ℕ) where
   -- the turn with this number, of a node among n: the gate decides on it and is notified of it, and
   -- the box of its sender is emptied
@@ -199,16 +200,18 @@ module _ {S P : Type 0} (next : S → Action → S) (answers : S → Action → 
   -- the gate lets the turn with this number pass, and it was not made because of a fault
   abbrev pub IsTurnUnmade : ℕ → WorkerAt P → WorkerAt P → Fault → Type 0
   IsTurnUnmade turn old new fault =
-      (lets old.seat.setup.number turn ≡ true)
+      lets old.seat.setup.number turn true
       × IsUnmade next answers begin (sender_at nodes turn)
       (is_to_lead old.seat.setup.number turn) old new fault
 
-  -- The turn with this number was made or skipped, and is counted.
+  -- The turn with this number was made or skipped, and is counted; the node rests after it or not.
   pub record IsCountedTurn (turn : ℕ) (old new : NodeAt P) : Type 0 where
     pub made : Option TurnResult
     pub turns : IsTurnOf turn old.worker new.worker made
     pub counts : new.counts ≡ counted made old.counts
-    pub rests : RestsAfter made new.worker.seat.part new.rests
+    pub rests : Bool
+    pub rests_if : RestsAfter made new.worker.seat.part rests
+    pub stirred : new.stirred ≡ (if rests then old.stirred else turn)
 
   -- The turn with this number was not made, because of a fault other than a refusal to lead. It is
   -- not counted.

@@ -23,8 +23,8 @@ pub record MayRun {M D P : Type 0} (nodes : List (NodeStart M D P)) (tasks : Lis
   pub fresh : All (λ start. start.seat.part ≡ fresh_part (OfTask fresh_task)) tasks
 
 module _ {S M D P : Type 0} (next : S → Action → S) (answers : S → Action → List Answer)
-    (begin : P → S) (lets : ℕ → ℕ → Bool) (heard : ℕ → ℕ → ℕ → Type 0)
-    (over : Party → ℕ → Bool → Bool → Type 0) (ended : Party → Option Fault → Type 0)
+    (begin : P → S) (lets : ℕ → ℕ → Bool → Type 0) (heard : ℕ → ℕ → ℕ → Type 0)
+    (over : Party → ℕ → ℕ → Result Bool Fault → Type 0) (ended : Party → Option Fault → Type 0)
     (nodes turns : ℕ) where
   -- the end is that of at most n turns of the loop of this start
   abbrev pub IsNodeEnd : NodeStart M D P → NodeEnd M D P → Type 0
@@ -32,7 +32,7 @@ module _ {S M D P : Type 0} (next : S → Action → S) (answers : S → Action 
       IsLooped next answers begin lets heard over ended nodes turns start.seat start.line end
 
 module _ {S M P : Type 0} (next : S → Action → S) (answers : S → Action → List Answer)
-    (begin : P → S) (over : Party → ℕ → Bool → Bool → Type 0)
+    (begin : P → S) (over : Party → ℕ → ℕ → Result Bool Fault → Type 0)
     (ended : Party → Option Fault → Type 0) (nodes turns : ℕ) where
   abbrev pub IsTaskEnd : TaskStart M P → TaskEnd M P → Type 0
   IsTaskEnd start end =
@@ -41,8 +41,8 @@ module _ {S M P : Type 0} (next : S → Action → S) (answers : S → Action �
 
 -- Each end is that of at most n turns of the loop of the start at its place.
 pub record HaveRun {M D P : Type 0} (next : M → Action → M) (answers : M → Action → List Answer)
-    (begin : P → M) (lets : ℕ → ℕ → Bool) (heard : ℕ → ℕ → ℕ → Type 0)
-    (over : Party → ℕ → Bool → Bool → Type 0) (ended : Party → Option Fault → Type 0) (turns : ℕ)
+    (begin : P → M) (lets : ℕ → ℕ → Bool → Type 0) (heard : ℕ → ℕ → ℕ → Type 0)
+    (over : Party → ℕ → ℕ → Result Bool Fault → Type 0) (ended : Party → Option Fault → Type 0) (turns : ℕ)
     (nodes : List (NodeStart M D P)) (tasks : List (TaskStart M P))
     (node_ends : List (NodeEnd M D P)) (task_ends : List (TaskEnd M P)) : Type 0 where
   pub nodes_are : AllZip (IsNodeEnd next answers begin lets heard over ended (length nodes) turns)
@@ -50,7 +50,7 @@ pub record HaveRun {M D P : Type 0} (next : M → Action → M) (answers : M →
   pub tasks_are : AllZip (IsTaskEnd next answers begin over ended (length nodes) turns)
       tasks task_ends
 
--- With a result all have run so; without one the gate was notified that they cannot.
+-- With a result all have run so; without one the ending was notified that they cannot.
 pub record RunsOrStops {A E : Type 0} (Ran : A → Type 0) (stopped : Type 0) (result : Result A E)
     : Type 0 where
   pub ran : IfOk result Ran

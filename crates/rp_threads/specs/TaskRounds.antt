@@ -1,5 +1,5 @@
 -- The turns of a task's loop: it fetches from one node, takes what its link passes on, and asks.
-use Rattle.std.specs.Prelude.{◌≡◌, ◌⊎◌, ℕ, ◌+◌, ◌%◌, ◌/◌, ◌<◌, nat_eq, nat_lt}
+use Rattle.std.specs.Prelude.{◌≡◌, ◌⊎◌, ℕ, ◌+◌, ◌-◌, ◌%◌, ◌/◌, ◌<◌, nat_eq, nat_lt}
 use Rattle.std.specs.Prelude.{Bool, true, false, ◌&&◌, ◌||◌, not, is_some, Option, Some, None}
 use Rattle.std.specs.Prelude.{List, length, slice_get, if◌then◌else◌}
 use Rattle.rp_base.specs.Action.{is_right}
@@ -61,7 +61,7 @@ module _ {S P : Type 0} (next : S → Action → S) (answers : S → Action → 
     pub sent : Sent
     pub turn : IsTaskTurn old input stepped sent
     pub offered : AreOffered next answers begin (Task stepped.setup.number) turn.done.sends
-        stepped new lost
+        stepped new lost 0
 
   -- the seat after that is asked, and how many packets are lost
   abbrev pub Asks : Option TaskInput → SeatState P → SeatState P → ℕ → Type 0
@@ -90,9 +90,10 @@ asked_for calls so_far = made_by so_far.waits calls so_far
 abbrev pub has_all_replies : List TaskCall → Calls → Bool
 has_all_replies calls so_far = not so_far.waits && nat_eq so_far.made (length calls)
 
--- then it rests
-abbrev pub task_rests : {P : Type 0} → List TaskCall → TaskAt P → Bool
-task_rests calls now = has_all_replies calls now.so_far
+-- how many turns, up to this one, it has made since it has them
+abbrev pub task_rested : {P : Type 0} → List TaskCall → ℕ → TaskAt P → ℕ
+task_rested calls done now =
+    if has_all_replies calls now.so_far then done - now.so_far.last_reply else 0
 
 -- n more packets are lost at boxes
 abbrev pub with_lost : ℕ → Calls → Calls

@@ -1,6 +1,6 @@
 -- The ends of the loops of a node and of a task, whether they run in a thread or not.
 use Rattle.std.specs.Prelude.{◌≡◌, ◌≢◌, ℕ, ◌+◌, ◌<◌, ◌≤◌, Bool, Option, Some, None, IfSome, List}
-use Rattle.std.specs.Prelude.{length}
+use Rattle.std.specs.Prelude.{◌⊎◌, Result, length}
 use Rattle.rp_base.specs.declared.action.Action.{Action}
 use Rattle.rp_base.specs.declared.fault.Fault.{Fault}
 use Rattle.rp_base.specs.declared.fault.Fault.TheVariants.{Device}
@@ -9,12 +9,12 @@ use Rattle.rp_codec.specs.declared.packet.Party.{Party}
 use Rattle.rp_codec.specs.declared.packet.Party.TheVariants.{Node, Task}
 use Rattle.rp_board.specs.Seats.{SeatState}
 use Rattle.rp_tasks.specs.Line.{Line, saturating_sum}
-use Rattle.rp_threads.specs.LoopTurns.{HasEnded}
+use Rattle.rp_threads.specs.LoopTurns.{HasEnded, IsNeverOver, IsStoppedBy}
 use Rattle.rp_threads.specs.Loops.{lead_period, total_of, turns_off}
 use Rattle.rp_threads.specs.Rounds.{NodeAt, IsNodeFault, IsCountedTurn, IsUncountedTurn}
-use Rattle.rp_threads.specs.Rounds.{before_turns, node_party, node_rests}
+use Rattle.rp_threads.specs.Rounds.{before_turns, node_party, node_rested}
 use Rattle.rp_threads.specs.Tasks.{TaskAt, HasMade, before_calls, task_party}
-use Rattle.rp_threads.specs.TaskRounds.{IsTaskFault, IsTaskTurnOf, IsUnmadeTurn, task_rests}
+use Rattle.rp_threads.specs.TaskRounds.{IsTaskFault, IsTaskTurnOf, IsUnmadeTurn, task_rested}
 use Rattle.rp_threads.specs.declared.loops.NodeEnd.{NodeEnd}
 use Rattle.rp_threads.specs.declared.tasks.TaskCall.{TaskCall}
 use Rattle.rp_threads.specs.declared.tasks.TaskEnd.{TaskEnd}
@@ -38,16 +38,16 @@ pub record CountsTurns {M D P : Type 0} (seat : SeatState P) (turns : ℕ) (end 
   pub idle : end.counts.idle ≤ turns_off (lead_period seat.setup.number) turns
 
 module _ {S M D P : Type 0} (next : S → Action → S) (answers : S → Action → List Answer)
-    (begin : P → S) (lets : ℕ → ℕ → Bool) (heard : ℕ → ℕ → ℕ → Type 0)
-    (over : Party → ℕ → Bool → Bool → Type 0) (ended : Party → Option Fault → Type 0)
+    (begin : P → S) (lets : ℕ → ℕ → Bool → Type 0) (heard : ℕ → ℕ → ℕ → Type 0)
+    (over : Party → ℕ → ℕ → Result Bool Fault → Type 0) (ended : Party → Option Fault → Type 0)
     (nodes turns : ℕ) (seat : SeatState P) (line : Line) (end : NodeEnd M D P) where
   -- A loop of at most n turns, of the node of this seat among n nodes and over this link, had this
-  -- end, of which the gate was notified. No packet of a turn that was not made counts as lost at a
-  -- box.
+  -- end, of which the ending was notified. If no run is ever over it made all its turns, unless a
+  -- fault ended it. No packet of a turn that was not made counts as lost at a box.
   pub record IsLooped : Type 0 where
     pub last : NodeAt P
     pub is : end ≡ end_of last end.fault
-    pub ran : HasEnded over node_party node_rests
+    pub ran : HasEnded over node_party node_rested
         (IsCountedTurn next answers begin lets heard nodes)
         (IsUncountedTurn next answers begin lets heard nodes) turns (before_turns seat line) last
         end.fault
@@ -55,7 +55,9 @@ module _ {S M D P : Type 0} (next : S → Action → S) (answers : S → Action 
     pub notified : ended (Node seat.setup.number) end.fault
     pub failures : end.fault ≢ Some Device → end.seat.failures ≡ seat.failures
     pub counts : end.fault ≡ None → CountsTurns seat ran.done end
-    pub cause : IfSome end.fault (IsNodeFault seat end.seat)
+    pub whole : IsNeverOver over → end.fault ≡ None → CountsTurns seat turns end
+    pub cause : IfSome end.fault (λ fault.
+        IsNodeFault seat end.seat fault ⊎ IsStoppedBy over (Node seat.setup.number) fault)
 
 -- ---- tasks
 
@@ -70,19 +72,23 @@ task_end_of last fault = record {
 }
 
 module _ {S M P : Type 0} (next : S → Action → S) (answers : S → Action → List Answer)
-    (begin : P → S) (over : Party → ℕ → Bool → Bool → Type 0)
+    (begin : P → S) (over : Party → ℕ → ℕ → Result Bool Fault → Type 0)
     (ended : Party → Option Fault → Type 0) (nodes turns : ℕ) (calls : List TaskCall)
     (seat : SeatState P) (line : Line) (end : TaskEnd M P) where
   -- A loop of at most n turns, of the task of this seat with these calls among n nodes and over
-  -- this link, had this end, of which the gate was notified.
+  -- this link, had this end, of which the ending was notified. If no run is ever over it made all
+  -- its turns, unless a fault ended it.
   pub record IsTaskLooped : Type 0 where
     pub last : TaskAt P
     pub is : end ≡ task_end_of last end.fault
-    pub ran : HasEnded over task_party (task_rests calls)
+    pub ran : HasEnded over task_party (task_rested calls)
         (IsTaskTurnOf next answers begin nodes calls)
         (IsUnmadeTurn next answers begin nodes calls) turns (before_calls seat line) last end.fault
     pub same : end.seat.setup ≡ seat.setup
     pub notified : ended (Task seat.setup.number) end.fault
-    pub made : (waits : Bool) × HasMade calls end.seat end.made waits
+    pub made : HasMade calls end.seat end.made last.so_far.waits
     pub first : end.fault ≡ None → 0 < length calls → 0 < ran.done → 0 < end.made
-    pub cause : IfSome end.fault (IsTaskFault nodes calls seat end.made)
+    pub whole : IsNeverOver over → end.fault ≡ None → ran.done ≡ turns
+    pub cause : IfSome end.fault (λ fault.
+        IsTaskFault nodes calls seat end.made fault
+        ⊎ IsStoppedBy over (Task seat.setup.number) fault)

@@ -1,5 +1,5 @@
 -- The result of a turn of a node.
-use Rattle.std.specs.Prelude.{◌≡◌, ◌⊎◌, ℕ, ◌+◌, Bool, true, false, Option, Some, None, List, []}
+use Rattle.std.specs.Prelude.{◌≡◌, ◌⊎◌, ℕ, ◌+◌, ◌≤◌, Bool, true, false, Option, Some, None, List, []}
 use Rattle.std.specs.Prelude.{◌∷◌, ◌++◌, length, if◌then◌else◌}
 use Rattle.rp_base.specs.declared.action.Action.{Action}
 use Rattle.rp_base.specs.declared.fault.Fault.{Fault}
@@ -22,6 +22,8 @@ use Rattle.rp_board.specs.Parts.{Part}
 use Rattle.rp_board.specs.Seats.{SeatState, IsFetched, IsPut}
 use Rattle.rp_boxes.specs.NodeSeats.{IsTurn, IsCutTurn, IsNoTurn}
 use Rattle.rp_threads.specs.Lines.{line_with, given_on, line_after}
+use Rattle.rp_threads.specs.declared.sends.Fate.{Fate}
+use Rattle.rp_threads.specs.declared.sends.Fate.TheVariants.{Put, InUse, NoMemory}
 use Rattle.rp_threads.specs.declared.turns.Turn.{Turn}
 use Rattle.rp_threads.specs.declared.turns.Turn.TheVariants.{Received, Led, Idle}
 use Rattle.rp_threads.specs.declared.turns.PacketCounts.{PacketCounts}
@@ -55,7 +57,7 @@ pub record IsLost {P : Type 0} (from to : Party) (old new : SeatState P) (line a
 
 -- nothing was sent
 abbrev pub no_packets : PacketCounts
-no_packets = record { sent = 0; lost = 0 }
+no_packets = record { sent = 0; lost = 0; uncopied = 0 }
 
 -- the node receives the packet that the link passes on; if there is none, it leads if it is to
 abbrev pub turn_of : Option (List ℕ) → Bool → Turn
@@ -93,6 +95,24 @@ pub record AreGivenOut (part : Part) (sent : Sent) (packets : List Message) : Ty
 abbrev pub AreSent : Part → Sent → Type 0
 AreSent part sent = (packets : List Message) × AreGivenOut part sent packets
 
+-- ---- what becomes of a packet
+
+-- it is lost: it did not go into its box
+abbrev pub is_lost : Fate → Bool
+is_lost Put = false
+is_lost InUse = true
+is_lost NoMemory = true
+
+-- it is lost because there was no memory for a copy of it
+abbrev pub is_uncopied : Fate → Bool
+is_uncopied Put = false
+is_uncopied InUse = false
+is_uncopied NoMemory = true
+
+-- how many packets that is, of one
+abbrev pub one_if : Bool → ℕ
+one_if holds = if holds then 1 else 0
+
 module _ {S P : Type 0} (next : S → Action → S) (answers : S → Action → List Answer)
     (begin : P → S) where
   -- the packet with this text went from the seat of a party into its box; or that box was in use,
@@ -101,53 +121,38 @@ module _ {S P : Type 0} (next : S → Action → S) (answers : S → Action → 
   IsOfferedToBox from text old new false = IsPut text old new × WasPut next answers begin from text new
   IsOfferedToBox from text old new true = (new ≡ old) × WasInUse next answers begin from text new
 
-  -- each of these packets was offered to its box, one after the other, and n of them are lost
-  abbrev pub AreOffered : Party → List Message → SeatState P → SeatState P → ℕ → Type 0
-  AreOffered from [] old new lost = (new ≡ old) × (lost ≡ 0)
-  AreOffered from (m ∷ others) old new lost =
-      (is_lost : Bool) × (more : ℕ) × (between : SeatState P)
-      × IsOfferedToBox from (text_of m) old between is_lost × AreOffered from others between new more
-      × (lost ≡ (if is_lost then 1 else 0) + more)
+  -- what became of the packet with this text: it went into its box or found that in use, or there
+  -- was no memory for a copy of it, which changes nothing at the seat
+  abbrev pub HasFate : Party → List ℕ → SeatState P → SeatState P → Fate → Type 0
+  HasFate from text old new Put = IsOfferedToBox from text old new false
+  HasFate from text old new InUse = IsOfferedToBox from text old new true
+  HasFate from text old new NoMemory = new ≡ old
 
-  -- The first of these packets were offered to their boxes, one after the other, but not all of
-  -- them.
-  pub record AreOfferedInPart (from : Party) (packets : List Message) (old new : SeatState P)
-      : Type 0 where
-    pub offered : List Message
-    pub unsent : Message
-    pub others : List Message
-    pub whole : packets ≡ offered ++ unsent ∷ others
-    pub lost : ℕ
-    pub are : AreOffered from offered old new lost
+  -- each of these packets had its fate, one after the other; n of them are lost, and m of these had
+  -- no memory for a copy
+  abbrev pub AreOffered : Party → List Message → SeatState P → SeatState P → ℕ → ℕ → Type 0
+  AreOffered from [] old new lost uncopied = (new ≡ old) × (lost ≡ 0) × (uncopied ≡ 0)
+  AreOffered from (m ∷ others) old new lost uncopied =
+      (fate : Fate) × (more : ℕ) × (without : ℕ) × (between : SeatState P)
+      × HasFate from (text_of m) old between fate × AreOffered from others between new more without
+      × (lost ≡ one_if (is_lost fate) + more) × (uncopied ≡ one_if (is_uncopied fate) + without)
 
-  -- The bytes are the texts of packets that the party sent; each of these was offered to its box,
-  -- and n are lost.
-  pub record AreTextsOffered (from : Party) (bytes : List ℕ) (old new : SeatState P) (lost : ℕ)
-      : Type 0 where
+  -- The bytes are the texts of packets that the party sent; each of these had its fate, and n are
+  -- lost, m of them without a copy.
+  pub record AreTextsOffered (from : Party) (bytes : List ℕ) (old new : SeatState P)
+      (lost uncopied : ℕ) : Type 0 where
     pub are : AreSentTexts old.part bytes
-    pub offered : AreOffered from are.packets old new lost
+    pub offered : AreOffered from are.packets old new lost uncopied
 
-  -- The bytes are the texts of packets that the party sent; not all of these were offered to their
-  -- boxes.
-  pub record AreTextsOfferedInPart (from : Party) (bytes : List ℕ) (old new : SeatState P)
-      : Type 0 where
-    pub are : AreSentTexts old.part bytes
-    pub offered : AreOfferedInPart from are.packets old new
-
-  -- each packet that a step returned was offered to its box, and n of them are lost
-  abbrev pub IsAllOffered : Party → Sent → SeatState P → SeatState P → ℕ → Type 0
-  IsAllOffered from sent old new lost =
+  -- each packet that a step returned had its fate
+  abbrev pub IsAllOffered : Party → Sent → SeatState P → SeatState P → ℕ → ℕ → Type 0
+  IsAllOffered from sent old new lost uncopied =
       (packets : List Message) → AreGivenOut old.part sent packets
-      → AreOffered from packets old new lost
+      → AreOffered from packets old new lost uncopied
 
-  -- not all of them were offered
-  abbrev pub IsOfferedInPart : Party → Sent → SeatState P → SeatState P → Type 0
-  IsOfferedInPart from sent old new =
-      (packets : List Message) → AreGivenOut old.part sent packets
-      → AreOfferedInPart from packets old new
-
-  -- One event, with such an input; then each of its packets was offered to its box, and the counts
-  -- say how many were sent and how many of these are lost.
+  -- One event, with such an input; then each of its packets went into its box, found that in use,
+  -- or had no memory for a copy, and the counts say how many were sent and how many of these are
+  -- lost. A single packet is put as it is, so it needs no copy.
   pub record IsEventBy (Is : Input → Type 0) (old new : SeatState P) (packets : PacketCounts)
       : Type 0 where
     pub input : Input
@@ -157,22 +162,15 @@ module _ {S P : Type 0} (next : S → Action → S) (answers : S → Action → 
     pub turn : IsTurn next answers begin old input stepped sent
     pub stated : packets.sent ≡ sent.packets
     pub offered : AreOffered (Node stepped.setup.number) turn.done.sends stepped new packets.lost
+        packets.uncopied
+    pub alone : packets.sent ≤ 1 → packets.uncopied ≡ 0
 
-  -- One event, after which memory ran out before each of its packets was offered to its box.
-  pub record IsUnsent (old : SeatState P) (input : Input) (new : SeatState P) (fault : Fault)
-      : Type 0 where
-    pub memory : fault ≡ OutOfMemory
-    pub stepped : SeatState P
-    pub sent : Sent
-    pub turn : IsTurn next answers begin old input stepped sent
-    pub offered : AreOfferedInPart (Node stepped.setup.number) turn.done.sends stepped new
-
-  -- The step with such an input was cut, or was no event, or not all of its packets were offered.
+  -- The step with such an input was cut, or was no event.
   pub record IsStopBy (Is : Input → Type 0) (old new : SeatState P) (fault : Fault) : Type 0 where
     pub input : Input
     pub is : Is input
     pub why : IsCutTurn next answers begin old input new fault
-        ⊎ (IsNoTurn next answers begin old input new fault ⊎ IsUnsent old input new fault)
+        ⊎ IsNoTurn next answers begin old input new fault
 
   -- the effect of the turn on the seat, by what the link passes on and whether the node is to lead
   abbrev pub Works : Option (List ℕ) → Bool → SeatState P → SeatState P → PacketCounts → Type 0
@@ -197,8 +195,7 @@ module _ {S P : Type 0} (next : S → Action → S) (answers : S → Action → 
     pub works : Works (given_on full) lead between new turned.packets
     pub gives : after ≡ line_after full
 
-  -- The step after that was cut, or was no event, or not all of its packets were offered; the
-  -- packet that the link passed on is lost.
+  -- The step after that was cut, or was no event; the packet that the link passed on is lost.
   pub record IsStoppedTurn (from : Party) (lead : Bool) (old new : SeatState P)
       (line after : Line) (fault : Fault) : Type 0 where
     pub between : SeatState P

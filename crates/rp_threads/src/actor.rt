@@ -3,6 +3,7 @@
 ghost use Rattle.std.specs.Prelude.{◌≡◌, ◌+◌, IfErr, OnOk};
 ghost use Rattle.rp_threads.specs.LoopTurns.{HasEnded};
 
+use crate::ending::Ending;
 use crate::gate::Gate;
 use crate::options::LoopOptions;
 use rp_base::Fault;
@@ -11,15 +12,15 @@ use std::alloc::Global;
 
 /// A node or a task in its loop, which makes turns.
 pub(crate) trait Actor<G: Gate> {
-    ghost use Rattle.std.specs.Prelude.{ℕ, Bool};
+    ghost use Rattle.std.specs.Prelude.{ℕ};
     ghost use Rattle.rp_base.specs.declared.fault.Fault.{Fault};
     ghost use Rattle.rp_codec.specs.declared.packet.Party.{Party};
 
-    /// Who it is, as the gate knows it.
+    /// Who it is, as others know it.
     ghost party: { Self → Party };
 
-    /// Whether it rests.
-    ghost rests: { Self → Bool };
+    /// How many turns it has rested, after it made n.
+    ghost rested: { ℕ → Self → ℕ };
 
     /// What holds before the turn of this number.
     ghost ready: { ℕ → Self → Type 0 };
@@ -30,13 +31,14 @@ pub(crate) trait Actor<G: Gate> {
     /// Why the turn of this number was not made, and what that left.
     ghost unmade: { ℕ → Self → Self → Fault → Type 0 };
 
-    /// Who it is, as the gate knows it.
+    /// Who it is, as others know it.
     fn party(&self) -> Party
         ensures { result ≡ party self.now };
 
-    /// Whether it rests now, which is passed to the gate before each turn.
-    fn rests(&self) -> bool
-        ensures { result ≡ rests self.now };
+    /// How many turns it has rested, after it made n: before each turn it is asked with this number
+    /// whether the run is over.
+    fn rested(&self, done: u64) -> u64
+        ensures { result ≡ rested done self.now };
 
     /// Makes the turn of this number, and counts it.
     fn turn(&mut self, alloc: Global, gate: &G, turn: u64) -> Result<(), Fault>
@@ -46,16 +48,22 @@ pub(crate) trait Actor<G: Gate> {
         ensures err { IfErr result (unmade turn self.old self.new) };
 }
 
-/// Makes the turns of an actor from 1 on, as many as the options say, or those before the gate says
-/// that the run is over. Returns the fault that ended them, if one did.
-fn make_turns<A: Actor<G>, G: Gate>(actor: &mut A, options: LoopOptions<'_, G>) -> Option<Fault>
+/// Makes the turns of an actor from 1 on, as many as the options say, or those before the run is
+/// over. Returns the fault that ended them, if one did.
+fn make_turns<A: Actor<G>, G: Gate, E: Ending>(
+    actor: &mut A,
+    options: LoopOptions<'_, G, E>,
+) -> Option<Fault>
     requires { A.ready 1 actor.old }
-    ensures { HasEnded G.over A.party A.rests A.turned A.unmade options.entry.turns
+    ensures { HasEnded E.over A.party A.rested A.turned A.unmade options.entry.turns
         actor.old actor.new result }
 {
     for done in 0..options.turns {
-        if options.gate.is_over(actor.party(), done + 1, actor.rests()) {
-            return None;
+        let rested = actor.rested(done);
+        match options.ending.is_over(actor.party(), done + 1, rested) {
+            Ok(false) => {}
+            Ok(true) => return None,
+            Err(fault) => return Some(fault),
         }
         if let Err(fault) = actor.turn(options.alloc, options.gate, done + 1) {
             return Some(fault);
@@ -64,17 +72,17 @@ fn make_turns<A: Actor<G>, G: Gate>(actor: &mut A, options: LoopOptions<'_, G>) 
     None
 }
 
-/// Makes the turns of an actor, as `make_turns`, and notifies the gate of their end.
-pub(crate) fn run_turns<A: Actor<G>, G: Gate>(
+/// Makes the turns of an actor, as `make_turns`, and notifies the ending of their end.
+pub(crate) fn run_turns<A: Actor<G>, G: Gate, E: Ending>(
     actor: &mut A,
-    options: LoopOptions<'_, G>,
+    options: LoopOptions<'_, G, E>,
 ) -> Option<Fault>
     requires { A.ready 1 actor.old }
-    ensures ran { HasEnded G.over A.party A.rests A.turned A.unmade options.entry.turns
+    ensures ran { HasEnded E.over A.party A.rested A.turned A.unmade options.entry.turns
         actor.old actor.new result }
-    ensures notified { G.ended (A.party actor.new) result }
+    ensures notified { E.ended (A.party actor.new) result }
 {
     let fault = make_turns(actor, options);
-    options.gate.end(actor.party(), fault);
+    options.ending.end(actor.party(), fault);
     fault
 }

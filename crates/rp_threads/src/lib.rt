@@ -2,6 +2,7 @@
 //!
 //! In reading order:
 //! - `gate`: decides which turns a node makes
+//! - `ending`: decides when a run is over
 //! - `options`: what the loops of a run share
 //! - `actor`: the turns of a node or a task, one after the other: the one loop
 //! - `sends`: puts the packets of a step into their boxes
@@ -16,6 +17,7 @@
 
 mod actor;
 mod crossing;
+mod ending;
 mod gate;
 mod loops;
 mod options;
@@ -27,6 +29,7 @@ mod threads;
 mod turns;
 
 pub use crossing::{node_seat_crosses, task_seat_crosses};
+pub use ending::{Ending, NeverOver};
 pub use gate::{Gate, Open};
 pub use loops::{Counts, NodeEnd, node_loop};
 pub use options::LoopOptions;

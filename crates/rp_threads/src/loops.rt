@@ -1,6 +1,6 @@
 //! A node's turns, one after the other.
 
-ghost use Rattle.std.specs.Prelude.{◌≡◌, ◌+◌, ◌^◌, ◌<◌, ◌≤◌, false, true, [], None, IfOk, IfErr, IfSome, IfNone, OnSome};
+ghost use Rattle.std.specs.Prelude.{◌≡◌, ◌+◌, ◌^◌, ◌<◌, ◌≤◌, Bool, false, true, if◌then◌else◌, [], None, IfOk, IfErr, IfSome, IfNone, OnSome};
 ghost use Rattle.rp_threads.specs.Lines.{HoldsTextsOf};
 ghost use Rattle.rp_threads.specs.Loops.{is_refusal, is_idle, is_uneventful, counted, total_of, with_turn};
 ghost use Rattle.rp_threads.specs.Rounds.{IsToLeadAt, HasWaited, NeedNotLead, CountsQuiet, IsLeadAnew, IsMade, IsUnmade, IsTurnOf, IsTurnUnmade, RestsAfter, node_state, worker_at};
@@ -8,6 +8,7 @@ ghost use Rattle.rp_threads.specs.Threads.{IsLooped, end_of};
 ghost use Rattle.rp_threads.specs.Turns.{IsEventBy, IsStopBy};
 
 use crate::actor::{Actor, run_turns};
+use crate::ending::Ending;
 use crate::gate::Gate;
 use crate::options::LoopOptions;
 use crate::rotation::{is_to_lead, sender};
@@ -29,7 +30,7 @@ pub struct NodeEnd<M: Machine, D: Device> {
     /// The number of lost packets in it includes those that were lost on the node's link since the
     /// link was made.
     pub counts: Counts,
-    /// The fault that ended the loop, if one did.
+    /// The fault that ended the loop, if one did: its own, or one by which the run was stopped.
     pub fault: Option<Fault>,
 }
 
@@ -41,8 +42,8 @@ pub struct Counts {
     pub led: u64,
     pub idle: u64,
     pub skipped: u64,
-    /// At boxes that were not empty, in the turns that were made. The count saturates at
-    /// `u64::MAX`.
+    /// At boxes that were not empty, or for want of memory for a copy, in the turns that were made.
+    /// The count saturates at `u64::MAX`.
     pub lost: u64,
 }
 
@@ -227,16 +228,29 @@ impl<M: Machine, D: Device> Worker<M, D> {
     }
 }
 
-/// A node in its loop, among n nodes: how many turns it made, and whether it rests.
+/// A node in its loop, among n nodes: how many turns it made, and the last after which it did not
+/// rest.
 #[derive(Drop)]
 struct NodeLoop<M: Machine, D: Device> {
     worker: Worker<M, D>,
     counts: Counts,
-    rests: bool,
+    stirred: u64,
     nodes: u8,
 }
 
 impl<M: Machine, D: Device> NodeLoop<M, D> {
+    /// The last turn after which the node did not rest, once it made the turn of this number.
+    fn last_stirred(&self, made: Option<TurnResult>, turn: u64) -> u64
+        ensures { (rests : Bool) × RestsAfter made self.now.worker.seat.part rests
+            × (result ≡ (if rests then self.now.stirred else turn)) }
+    {
+        if self.worker.rests(made) {
+            self.stirred
+        } else {
+            turn
+        }
+    }
+
     /// The end of the loop.
     fn ended(self, fault: Option<Fault>) -> NodeEnd<M, D>
         ensures { result ≡ end_of (node_state self) fault }
@@ -253,7 +267,7 @@ impl<M: Machine, D: Device> NodeLoop<M, D> {
 }
 
 impl<M: Machine, D: Device, G: Gate> Actor<G> for NodeLoop<M, D> {
-    ghost use Rattle.std.specs.Prelude.{◌≡◌, ◌+◌, ◌≤◌};
+    ghost use Rattle.std.specs.Prelude.{◌≡◌, ◌+◌, ◌-◌, ◌≤◌};
     ghost use Rattle.rp_codec.specs.declared.packet.Party.TheVariants.{Node};
     ghost use Rattle.rp_threads.specs.Lines.{HoldsTextsOf};
     ghost use Rattle.rp_threads.specs.Loops.{total_of};
@@ -261,7 +275,7 @@ impl<M: Machine, D: Device, G: Gate> Actor<G> for NodeLoop<M, D> {
 
     ghost party = { λ node. Node node.worker.seat.setup.number };
 
-    ghost rests = { λ node. node.rests };
+    ghost rested = { λ done node. done - node.stirred };
 
     ghost ready = { λ turn node. (node.nodes ≤ 7)
         × HoldsTextsOf node.worker.seat.part.got node.worker.link
@@ -279,31 +293,30 @@ impl<M: Machine, D: Device, G: Gate> Actor<G> for NodeLoop<M, D> {
         Party::Node(self.worker.seat.number())
     }
 
-    fn rests(&self) -> bool {
-        self.rests
+    fn rested(&self, done: u64) -> u64 {
+        done.saturating_sub(self.stirred)
     }
 
     fn turn(&mut self, alloc: Global, gate: &G, turn: u64) -> Result<(), Fault> {
         let made = self.worker.turn(alloc, self.nodes, gate, turn)?;
         self.counts.count(made);
-        self.rests = self.worker.rests(made);
+        self.stirred = self.last_stirred(made, turn);
         Ok(())
     }
 }
 
-/// Makes the turns of a node, as many as the options say, or those before the gate says that the
-/// run is over. They empty the boxes of the nodes 1 to `nodes` and of the tasks, in rotation. Node n is to lead in the turns whose number is divisible
+/// Makes the turns of a node, as many as the options say, or those before the run is over. They empty the boxes of the nodes 1 to `nodes` and of the tasks, in rotation. Node n is to lead in the turns whose number is divisible
 /// by 8 + n. If a turn is idle while something is pending that did not count yet, the node leads with
 /// a new ballot at the first position that it has not applied, once it has waited long enough
 /// (`Patience`). A fault
 /// ends the loop, unless it only means that the node cannot lead: `OutOfMemory`, `Device` if its
-/// device failed, or `Failed` if it had failed before the first turn. The loop never blocks, unless
-/// the gate does.
-pub fn node_loop<M: Machine, D: Device, G: Gate>(
+/// device failed, or `Failed` if it had failed before the first turn; and so does one by which the
+/// run is stopped. The loop never blocks, unless the gate or the ending does.
+pub fn node_loop<M: Machine, D: Device, G: Gate, E: Ending>(
     seat: NodeSeat<M, D>,
     line: FaultLine,
     nodes: u8,
-    options: LoopOptions<'_, G>,
+    options: LoopOptions<'_, G, E>,
 ) -> NodeEnd<M, D>
     requires nodes { nodes ≤ 7 }
     requires line { line.held ≡ [] }
@@ -316,20 +329,21 @@ pub fn node_loop<M: Machine, D: Device, G: Gate>(
     //   position is left. A turn is quiet if it is idle and something is pending that did not count
     // claim (result): The gate is called after each turn of a node that it lets pass, with that
     //   node, that turn and the number of packets sent in it, 0 if the node was refused to lead
-    // claim (result): Before each turn of a node the gate is asked whether the run is over, with
-    //   that turn and whether the node rests: its turn before was uneventful, and nothing is
-    //   pending at it. A turn is made only if the gate says no
-    // claim (result): Without a fault a node's loop makes all its turns, or those before the gate
-    //   says that the run is over. It counts those that it made, its seat had one event for each
-    //   that was received or led, and only turns in which it was not to lead are idle; failures of
-    //   the device are counted only if it ends by `Device`
-    // claim (result): The gate is notified that a node's loop ended, and by which fault
+    // claim (result): Before each turn of a node it is asked whether the run is over, with that turn
+    //   and for how many turns the node has rested: they were uneventful, and nothing was pending at
+    //   it after them. A turn is made only if the answer is no
+    // claim (result): Without a fault a node's loop makes exactly the turns that it was asked for, if
+    //   no run is ever over, and otherwise all of them or those before the answer that the run is
+    //   over. It counts those that it made, its seat had one event for each that was received or
+    //   led, and only turns in which it was not to lead are idle; failures of the device are counted
+    //   only if it ends by `Device`
+    // claim (result): It is notified that a node's loop ended, and by which fault
     // claim (result): The packets that a node's loop counts as lost are those of its turns that
-    //   found their boxes in use, and the copies that its link lost
+    //   found their boxes in use or no memory for a copy, and the copies that its link lost
     // claim (result): A node's loop ends by the fault of a turn that was not made, after turns that
     //   were: out of memory, `Device` if a call of the device failed, or `Failed` if the node was
-    //   stopped from the start
-    ensures { IsLooped M.next M.answers M.begin G.lets G.heard G.over G.ended nodes
+    //   stopped from the start; or by the fault that was the answer whether the run is over
+    ensures { IsLooped M.next M.answers M.begin G.lets G.heard E.over E.ended nodes
         options.entry.turns seat line result }
 {
     let worker = Worker {
@@ -347,7 +361,7 @@ pub fn node_loop<M: Machine, D: Device, G: Gate>(
     let mut node = NodeLoop {
         worker,
         counts,
-        rests: false,
+        stirred: 0,
         nodes,
     };
     let fault = run_turns(&mut node, options);

@@ -5,6 +5,7 @@ ghost use Rattle.rp_board.specs.Parts.{fresh_part, OfTask};
 ghost use Rattle.rp_replica.specs.rp_model.specs.Parts.{fresh_task};
 ghost use Rattle.rp_threads.specs.Threads.{IsLooped, IsTaskLooped};
 
+use crate::ending::Ending;
 use crate::gate::Gate;
 use crate::loops::{NodeEnd, node_loop};
 use crate::options::LoopOptions;
@@ -35,7 +36,7 @@ pub struct TaskStart<M: Machine> {
 }
 
 /// How the loop of a node or a task starts, and what it ensures of its end.
-pub(crate) trait Start<G: Gate> {
+pub(crate) trait Start<G: Gate, E: Ending> {
     ghost use Rattle.std.specs.Prelude.{ℕ};
 
     /// How the loop ends.
@@ -45,47 +46,55 @@ pub(crate) trait Start<G: Gate> {
     ghost ends: { Self → ℕ → ℕ → Self.End → Type 0 };
 }
 
-impl<M: Machine, D: Device, G: Gate> Start<G> for NodeStart<M, D> {
+impl<M: Machine, D: Device, G: Gate, E: Ending> Start<G, E> for NodeStart<M, D> {
     type End = NodeEnd<M, D>;
 
     ghost use Rattle.rp_threads.specs.Runs.{IsNodeEnd};
 
     ghost ends = { λ start nodes turns end. IsNodeEnd M.next M.answers M.begin G.lets G.heard
-        G.over G.ended nodes turns start end };
+        E.over E.ended nodes turns start end };
 }
 
-impl<M: Machine, G: Gate> Start<G> for TaskStart<M> {
+impl<M: Machine, G: Gate, E: Ending> Start<G, E> for TaskStart<M> {
     type End = TaskEnd<M>;
 
     ghost use Rattle.rp_threads.specs.Runs.{IsTaskEnd};
 
-    ghost ends = { λ start nodes turns end. IsTaskEnd M.next M.answers M.begin G.over G.ended
+    ghost ends = { λ start nodes turns end. IsTaskEnd M.next M.answers M.begin E.over E.ended
         nodes turns start end };
 }
 
 /// The thread of a node or a task guarantees what its loop ensures, for these numbers of nodes and
 /// of turns.
 #[derive(Drop)]
-pub(crate) struct LoopGuarantee<S: Start<G>, G: Gate> {
+pub(crate) struct LoopGuarantee<S: Start<G, E>, G: Gate, E: Ending> {
     pub(crate) start: Snapshot<S>,
     pub(crate) gate: PhantomData<G>,
+    pub(crate) ending: PhantomData<E>,
     pub(crate) nodes: u8,
     pub(crate) turns: u64,
 }
 
-impl<S: Start<G>, G: Gate> Promise<S::End> for LoopGuarantee<S, G> {
+impl<S: Start<G, E>, G: Gate, E: Ending> Promise<S::End> for LoopGuarantee<S, G, E> {
     ghost kept_by = { λ guarantee end.
         S.ends guarantee.start.value guarantee.nodes guarantee.turns end };
 }
 
 /// Starts a node's loop in a thread. If no thread can be made, it is refused and the seat is
 /// dropped.
-pub(crate) fn start_node<'s, E, M: Machine + Send + 's, D: Device + Send + 's, G: Gate + Sync>(
-    scope: &Scope<'s, E>,
+pub(crate) fn start_node<
+    's,
+    V,
+    M: Machine + Send + 's,
+    D: Device + Send + 's,
+    G: Gate + Sync,
+    E: Ending + Sync,
+>(
+    scope: &Scope<'s, V>,
     start: NodeStart<M, D>,
     nodes: u8,
-    options: LoopOptions<'s, G>,
-) -> Result<PromisedHandle<NodeEnd<M, D>, LoopGuarantee<NodeStart<M, D>, G>>, AllocError>
+    options: LoopOptions<'s, G, E>,
+) -> Result<PromisedHandle<NodeEnd<M, D>, LoopGuarantee<NodeStart<M, D>, G, E>>, AllocError>
 where
     M::Program: Send,
     requires nodes { nodes ≤ 7 }
@@ -97,6 +106,7 @@ where
     let guarantee = LoopGuarantee {
         start: Snapshot::of(&start),
         gate: PhantomData::<G>,
+        ending: PhantomData::<E>,
         nodes,
         turns: options.turns,
     };
@@ -105,7 +115,7 @@ where
         guarantee,
         move || -> NodeEnd<M, D>
             requires { (nodes ≤ 7) × (line.held ≡ []) }
-            ensures { IsLooped M.next M.answers M.begin G.lets G.heard G.over G.ended nodes
+            ensures { IsLooped M.next M.answers M.begin G.lets G.heard E.over E.ended nodes
                 options.entry.turns seat line result }
         { node_loop(seat, line, nodes, options) },
     )?;
@@ -114,12 +124,12 @@ where
 
 /// Starts a task's loop in a thread. If no thread can be made, it is refused and the seat is
 /// dropped.
-pub(crate) fn start_task<'s, E, M: Machine + Send + 's, G: Gate + Sync>(
-    scope: &Scope<'s, E>,
+pub(crate) fn start_task<'s, V, M: Machine + Send + 's, G: Gate + Sync, E: Ending + Sync>(
+    scope: &Scope<'s, V>,
     start: TaskStart<M>,
     nodes: u8,
-    options: LoopOptions<'s, G>,
-) -> Result<PromisedHandle<TaskEnd<M>, LoopGuarantee<TaskStart<M>, G>>, AllocError>
+    options: LoopOptions<'s, G, E>,
+) -> Result<PromisedHandle<TaskEnd<M>, LoopGuarantee<TaskStart<M>, G, E>>, AllocError>
 where
     M::Program: Send,
     requires nodes { (1 ≤ nodes) × (nodes ≤ 7) }
@@ -132,6 +142,7 @@ where
     let guarantee = LoopGuarantee {
         start: Snapshot::of(&start),
         gate: PhantomData::<G>,
+        ending: PhantomData::<E>,
         nodes,
         turns: options.turns,
     };
@@ -142,7 +153,7 @@ where
             requires nodes { (1 ≤ nodes) × (nodes ≤ 7) }
             requires line { line.held ≡ [] }
             requires fresh { seat.part ≡ fresh_part (OfTask fresh_task) }
-            ensures { IsTaskLooped M.next M.answers M.begin G.over G.ended nodes
+            ensures { IsTaskLooped M.next M.answers M.begin E.over E.ended nodes
                 options.entry.turns calls.items seat line result }
         { task_loop(seat, calls.as_slice(), line, nodes, options) },
     )?;

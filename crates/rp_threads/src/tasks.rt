@@ -1,6 +1,6 @@
 //! A task's calls, one after the other.
 
-ghost use Rattle.std.specs.Prelude.{◌≡◌, ◌≤◌, [], Some, IfOk, IfErr, OnOk};
+ghost use Rattle.std.specs.Prelude.{◌≡◌, ◌≤◌, ◌-◌, if◌then◌else◌, [], Some, IfOk, IfErr, OnOk};
 ghost use Rattle.rp_base.specs.declared.fault.Fault.TheVariants.{OutOfMemory};
 ghost use Rattle.rp_board.specs.Parts.{fresh_part, OfTask};
 ghost use Rattle.rp_board.specs.Seats.{IsSentText};
@@ -14,6 +14,7 @@ ghost use Rattle.rp_threads.specs.Threads.{IsTaskLooped, task_end_of};
 ghost use Rattle.rp_threads.specs.Turns.{AreSent, IsAllOffered, IsOfferedToBox};
 
 use crate::actor::{Actor, run_turns};
+use crate::ending::Ending;
 use crate::gate::Gate;
 use crate::options::LoopOptions;
 use crate::rotation::node_in_turn;
@@ -48,7 +49,7 @@ pub struct TaskEnd<M: Machine> {
     /// How many packets were lost: on its link since the link was made, and at boxes that were not
     /// empty, in the turns that were made. The count saturates at `u64::MAX`.
     pub lost: u64,
-    /// The fault that ended the loop, if one did.
+    /// The fault that ended the loop, if one did: its own, or one by which the run was stopped.
     pub fault: Option<Fault>,
 }
 
@@ -141,7 +142,7 @@ fn put_sent<M: Machine>(seat: &mut TaskSeat<M>, sent: Sent) -> usize
     requires sent { AreSent seat.old.part sent }
     requires few { sent.packets ≤ 1 }
     ensures { IsAllOffered M.next M.answers M.begin (parties.Task seat.old.setup.number) sent
-        seat.old seat.new result }
+        seat.old seat.new result 0 }
 {
     if sent.packets == 1 {
         return usize::from(put_text(seat, sent.bytes));
@@ -265,12 +266,12 @@ impl<M: Machine, G: Gate> Actor<G> for TaskLoop<'_, M> {
     ghost use Rattle.std.specs.Prelude.{◌≡◌, ◌≤◌};
     ghost use Rattle.rp_codec.specs.declared.packet.Party.TheVariants.{Task};
     ghost use Rattle.rp_threads.specs.Lines.{HoldsTextsOf};
-    ghost use Rattle.rp_threads.specs.TaskRounds.{IsTaskTurnOf, IsUnmadeTurn, has_all_replies};
+    ghost use Rattle.rp_threads.specs.TaskRounds.{IsTaskTurnOf, IsUnmadeTurn, task_rested};
     ghost use Rattle.rp_threads.specs.Tasks.{task_state};
 
     ghost party = { λ task. Task task.caller.seat.setup.number };
 
-    ghost rests = { λ task. has_all_replies task.calls.now task.caller.so_far };
+    ghost rested = { λ done task. task_rested task.calls.now done (task_state task) };
 
     ghost ready = { λ turn task. ((1 ≤ task.nodes) × (task.nodes ≤ 7))
         × HoldsTextsOf task.caller.seat.part.got task.caller.link };
@@ -287,8 +288,12 @@ impl<M: Machine, G: Gate> Actor<G> for TaskLoop<'_, M> {
         Party::Task(self.caller.seat.number())
     }
 
-    fn rests(&self) -> bool {
-        self.caller.so_far.has_all_replies(self.calls)
+    fn rested(&self, done: u64) -> u64 {
+        if self.caller.so_far.has_all_replies(self.calls) {
+            done.saturating_sub(self.caller.so_far.last_reply)
+        } else {
+            0
+        }
     }
 
     fn turn(&mut self, alloc: Global, _gate: &G, turn: u64) -> Result<(), Fault> {
@@ -296,19 +301,18 @@ impl<M: Machine, G: Gate> Actor<G> for TaskLoop<'_, M> {
     }
 }
 
-/// Makes the turns of a task, as many as the options say, or those before the gate says that the
-/// run is over. In each it fetches from one of the nodes 1 to `nodes`, in rotation, through its
+/// Makes the turns of a task, as many as the options say, or those before the run is over. In each it fetches from one of the nodes 1 to `nodes`, in rotation, through its
 /// link, and takes the reply that the link may pass on. It makes its calls in order: the first in the first turn, and each later one once the call before
 /// has its reply. While it waits, it asks the next node again in every 16th turn. A fault ends the
 /// loop: `OutOfMemory`, `NumbersSpent` if no number is left for the next call, or `BadConfig` if
-/// that call is not right or asks a node above the last. The loop never blocks, unless the gate
-/// does.
-pub fn task_loop<M: Machine, G: Gate>(
+/// that call is not right or asks a node above the last; and so does one by which the run is
+/// stopped. The loop never blocks, unless the ending does.
+pub fn task_loop<M: Machine, G: Gate, E: Ending>(
     seat: TaskSeat<M>,
     calls: &[TaskCall],
     line: FaultLine,
     nodes: u8,
-    options: LoopOptions<'_, G>,
+    options: LoopOptions<'_, G, E>,
 ) -> TaskEnd<M>
     requires nodes { (1 ≤ nodes) × (nodes ≤ 7) }
     requires line { line.held ≡ [] }
@@ -316,11 +320,12 @@ pub fn task_loop<M: Machine, G: Gate>(
     // claim (result): A task's loop makes its turns from 1 on, one after the other: each empties
     //   the box of one node, all in rotation, takes what its link passes on, and makes the next of
     //   its calls if none waits, or asks the next node again if one has waited long enough
-    // claim (result): Before each turn of a task the gate is asked whether the run is over, with
-    //   that turn and whether the task has the replies to all its calls. A turn is made only if the
-    //   gate says no. Without a fault a task's loop makes all its turns, or those before the gate
-    //   says that the run is over
-    // claim (result): The gate is notified that a task's loop ended, and by which fault
+    // claim (result): Before each turn of a task it is asked whether the run is over, with that turn
+    //   and how many turns the task has made since it has the replies to all its calls. A turn is
+    //   made only if the answer is no. Without a fault a task's loop makes exactly the turns that it
+    //   was asked for, if no run is ever over, and otherwise all of them or those before the answer
+    //   that the run is over
+    // claim (result): It is notified that a task's loop ended, and by which fault
     // claim (result): A task's loop makes a prefix of its calls, each asked of its node, and no
     //   others; at least one if there is a call and a turn was made. What it asks went into its box or found
     //   it in use. The turn of the last reply is the one in which the last call got its reply, 0 if
@@ -328,8 +333,8 @@ pub fn task_loop<M: Machine, G: Gate>(
     // claim (result): The packets that a task's loop counts as lost are those of its turns that
     //   found their boxes in use, and the copies that its link lost
     // claim (result): A task's loop ends by the fault of a turn that was not made, after turns
-    //   that were
-    ensures { IsTaskLooped M.next M.answers M.begin G.over G.ended nodes options.entry.turns
+    //   that were, or by the fault that was the answer whether the run is over
+    ensures { IsTaskLooped M.next M.answers M.begin E.over E.ended nodes options.entry.turns
         calls.now seat line result }
 {
     let so_far = Calls {

@@ -6,6 +6,7 @@ ghost use Rattle.rp_board.specs.Parts.{fresh_part, OfTask};
 ghost use Rattle.rp_replica.specs.rp_model.specs.Parts.{fresh_task};
 ghost use Rattle.rp_threads.specs.Runs.{MayRun, HaveRun, RunsOrStops, IsNodeEnd, IsTaskEnd};
 
+use crate::ending::Ending;
 use crate::gate::Gate;
 use crate::loops::NodeEnd;
 use crate::options::LoopOptions;
@@ -19,12 +20,19 @@ use std::thread;
 use std::thread::{PromisedHandle, Scope, Threads};
 
 /// Starts the nodes, each in its own thread.
-fn start_nodes<'s, E, M: Machine + Send + 's, D: Device + Send + 's, G: Gate + Sync>(
-    scope: &Scope<'s, E>,
+fn start_nodes<
+    's,
+    V,
+    M: Machine + Send + 's,
+    D: Device + Send + 's,
+    G: Gate + Sync,
+    E: Ending + Sync,
+>(
+    scope: &Scope<'s, V>,
     starts: Vec<NodeStart<M, D>>,
     nodes: u8,
-    options: LoopOptions<'s, G>,
-) -> Result<Vec<PromisedHandle<NodeEnd<M, D>, LoopGuarantee<NodeStart<M, D>, G>>>, AllocError>
+    options: LoopOptions<'s, G, E>,
+) -> Result<Vec<PromisedHandle<NodeEnd<M, D>, LoopGuarantee<NodeStart<M, D>, G, E>>>, AllocError>
 where
     M::Program: Send,
     requires nodes { nodes ≤ 7 }
@@ -41,12 +49,12 @@ where
 }
 
 /// Starts the tasks, each in its own thread.
-fn start_tasks<'s, E, M: Machine + Send + 's, G: Gate + Sync>(
-    scope: &Scope<'s, E>,
+fn start_tasks<'s, V, M: Machine + Send + 's, G: Gate + Sync, E: Ending + Sync>(
+    scope: &Scope<'s, V>,
     starts: Vec<TaskStart<M>>,
     nodes: u8,
-    options: LoopOptions<'s, G>,
-) -> Result<Vec<PromisedHandle<TaskEnd<M>, LoopGuarantee<TaskStart<M>, G>>>, AllocError>
+    options: LoopOptions<'s, G, E>,
+) -> Result<Vec<PromisedHandle<TaskEnd<M>, LoopGuarantee<TaskStart<M>, G, E>>>, AllocError>
 where
     M::Program: Send,
     requires nodes { (1 ≤ nodes) × (nodes ≤ 7) }
@@ -64,9 +72,9 @@ where
 }
 
 /// Joins the threads of nodes or of tasks.
-fn join_all<R: Threads, S: Start<G>, G: Gate>(
+fn join_all<R: Threads, S: Start<G, E>, G: Gate, E: Ending>(
     rt: &R,
-    handles: Vec<PromisedHandle<S::End, LoopGuarantee<S, G>>>,
+    handles: Vec<PromisedHandle<S::End, LoopGuarantee<S, G, E>>>,
 ) -> Result<Vec<S::End>, AllocError>
 where
     S::End: Drop,
@@ -78,17 +86,25 @@ where
 }
 
 /// Starts all threads, and joins them.
-fn run_started<'s, E, R: Threads, M: Machine + Send + 's, D: Device + Send + 's, G: Gate + Sync>(
-    scope: &Scope<'s, E>,
+fn run_started<
+    's,
+    V,
+    R: Threads,
+    M: Machine + Send + 's,
+    D: Device + Send + 's,
+    G: Gate + Sync,
+    E: Ending + Sync,
+>(
+    scope: &Scope<'s, V>,
     rt: &R,
     nodes: Vec<NodeStart<M, D>>,
     tasks: Vec<TaskStart<M>>,
-    options: LoopOptions<'s, G>,
+    options: LoopOptions<'s, G, E>,
 ) -> Result<(Vec<NodeEnd<M, D>>, Vec<TaskEnd<M>>), AllocError>
 where
     M::Program: Send,
     requires { MayRun nodes.items tasks.items }
-    ensures { IfOk result (λ ends. HaveRun M.next M.answers M.begin G.lets G.heard G.over G.ended
+    ensures { IfOk result (λ ends. HaveRun M.next M.answers M.begin G.lets G.heard E.over E.ended
         options.entry.turns nodes.items tasks.items ends.0.items ends.1.items) }
 {
     let count = nodes.len() as u8;
@@ -99,26 +115,34 @@ where
     Ok((nodes, tasks))
 }
 
-/// Starts all threads, and joins them. If that fails, the gate is notified, so that the threads that
+/// Starts all threads, and joins them. If that fails, the ending is notified, so that the threads that
 /// were started can end.
-fn run_within<'s, E, R: Threads, M: Machine + Send + 's, D: Device + Send + 's, G: Gate + Sync>(
-    scope: &Scope<'s, E>,
+fn run_within<
+    's,
+    V,
+    R: Threads,
+    M: Machine + Send + 's,
+    D: Device + Send + 's,
+    G: Gate + Sync,
+    E: Ending + Sync,
+>(
+    scope: &Scope<'s, V>,
     rt: &R,
     nodes: Vec<NodeStart<M, D>>,
     tasks: Vec<TaskStart<M>>,
-    options: LoopOptions<'s, G>,
+    options: LoopOptions<'s, G, E>,
 ) -> Result<(Vec<NodeEnd<M, D>>, Vec<TaskEnd<M>>), AllocError>
 where
     M::Program: Send,
     requires { MayRun nodes.items tasks.items }
-    ensures ok { IfOk result (λ ends. HaveRun M.next M.answers M.begin G.lets G.heard G.over
-        G.ended options.entry.turns nodes.items tasks.items ends.0.items ends.1.items) }
-    ensures stopped { OnErr result (G.stopped true) }
+    ensures ok { IfOk result (λ ends. HaveRun M.next M.answers M.begin G.lets G.heard E.over
+        E.ended options.entry.turns nodes.items tasks.items ends.0.items ends.1.items) }
+    ensures stopped { OnErr result (E.stopped true) }
 {
     match run_started(scope, rt, nodes, tasks, options) {
         Ok(ends) => Ok(ends),
         Err(error) => {
-            options.gate.stop();
+            options.ending.stop();
             Err(error)
         }
     }
@@ -128,13 +152,19 @@ where
 /// their ends in the order of the starts. The nodes are assumed to be those of the numbers 1 to n.
 /// A node makes its turns as `node_loop` describes and a task as `task_loop` does, both by the
 /// options. `AllocError` if no thread can be made for one of them, or if memory runs out for the
-/// list of them: the gate is notified, the threads that were started still run to their end, and no
+/// list of them: the ending is notified, the threads that were started still run to their end, and no
 /// seat is returned.
-pub fn run_threads<R: Threads + Wait, M: Machine + Send, D: Device + Send, G: Gate + Sync>(
+pub fn run_threads<
+    R: Threads + Wait,
+    M: Machine + Send,
+    D: Device + Send,
+    G: Gate + Sync,
+    E: Ending + Sync,
+>(
     rt: &R,
     nodes: Vec<NodeStart<M, D>>,
     tasks: Vec<TaskStart<M>>,
-    options: LoopOptions<'_, G>,
+    options: LoopOptions<'_, G, E>,
 ) -> Result<(Vec<NodeEnd<M, D>>, Vec<TaskEnd<M>>), AllocError>
 where
     M::Program: Send,
@@ -144,12 +174,12 @@ where
     requires fresh { All (λ start. start.seat.part ≡ fresh_part (OfTask fresh_task)) tasks.items }
     // claim: The results of the nodes and tasks that were to run are, in the order given, each what
     //   its loop ensures
-    // claim (stopped): If a thread could not be started the gate is notified of that
+    // claim (stopped): If a thread could not be started the ending is notified of that
     ensures nodes { IfOk result (λ ends. AllZip (IsNodeEnd M.next M.answers M.begin G.lets G.heard
-        G.over G.ended (length nodes.items) options.entry.turns) nodes.items ends.0.items) }
-    ensures tasks { IfOk result (λ ends. AllZip (IsTaskEnd M.next M.answers M.begin G.over G.ended
+        E.over E.ended (length nodes.items) options.entry.turns) nodes.items ends.0.items) }
+    ensures tasks { IfOk result (λ ends. AllZip (IsTaskEnd M.next M.answers M.begin E.over E.ended
         (length nodes.items) options.entry.turns) tasks.items ends.1.items) }
-    ensures stopped { OnErr result (G.stopped true) }
+    ensures stopped { OnErr result (E.stopped true) }
 {
     thread::scope(
         thread::scope_env(),
@@ -157,8 +187,8 @@ where
         |scope| -> Result<(Vec<NodeEnd<M, D>>, Vec<TaskEnd<M>>), AllocError>
             requires { MayRun nodes.items tasks.items }
             ensures { RunsOrStops (λ ends. HaveRun M.next M.answers M.begin G.lets G.heard
-                G.over G.ended options.entry.turns nodes.items tasks.items ends.0.items
-                ends.1.items) (G.stopped true) result }
+                E.over E.ended options.entry.turns nodes.items tasks.items ends.0.items
+                ends.1.items) (E.stopped true) result }
         { run_within(scope, rt, nodes, tasks, options) },
     )
 }

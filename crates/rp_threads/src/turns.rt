@@ -34,8 +34,10 @@ pub enum Turn {
 pub struct PacketCounts {
     /// How many the step sent.
     pub sent: usize,
-    /// How many of them are lost because their boxes were not empty.
+    /// How many of them are lost: their boxes were not empty, or there was no memory for a copy.
     pub lost: usize,
+    /// How many of these are lost because there was no memory for a copy. A single packet needs none.
+    pub uncopied: usize,
 }
 
 /// A turn that was made, and the packets that the node sent in it.
@@ -64,10 +66,10 @@ pub(crate) fn take_fetched(
 }
 
 /// Makes one step of a node, with a packet that its seat got or with another input, and puts the
-/// packets that it sends into their boxes. A packet whose box is not empty is lost. Returns how
-/// many packets were sent and how many of them were lost. Refused as `NodeSeat::turn` is, which
-/// says what that leaves. `OutOfMemory` also if memory runs out for the copy of a packet: then the
-/// step was made, the packets before that one were offered, and it and those after it are lost.
+/// packets that it sends into their boxes. A packet whose box is not empty is lost, and so is one
+/// for whose copy there is no memory: the others are put all the same. Returns how many packets
+/// were sent and how many of them were lost. Refused as `NodeSeat::turn` is, which says what that
+/// leaves.
 pub fn node_step<M: Machine, D: Device>(
     seat: &mut NodeSeat<M, D>,
     alloc: Global,
@@ -76,8 +78,8 @@ pub fn node_step<M: Machine, D: Device>(
     requires right { IsRightInput input.now }
     requires got { IsGot seat.old.part input.now }
     // claim: A step of a node's seat is one event, and then each packet that it sent went into its
-    //   box, or found it in use and is counted as lost; or it is the turn's refusal; or there is no
-    //   memory for the copy of a packet, once those before it were offered, which ends the loop
+    //   box, or found it in use, or found no memory for its copy, and is counted as lost in the last
+    //   two cases; or it is the turn's refusal
     ensures got { seat.new.part.got ≡ seat.old.part.got }
     ensures ok { IfOk result (IsEventBy M.next M.answers M.begin
         (λ given. given ≡ input.now) seat.old seat.new) }
@@ -86,10 +88,11 @@ pub fn node_step<M: Machine, D: Device>(
 {
     let sent = seat.turn(alloc, input)?;
     let packets = sent.packets;
-    let lost = put_all(seat, alloc, sent)?;
+    let losses = put_all(seat, alloc, sent);
     Ok(PacketCounts {
         sent: packets,
-        lost,
+        lost: losses.lost,
+        uncopied: losses.uncopied,
     })
 }
 
@@ -128,7 +131,11 @@ fn work<M: Machine, D: Device>(
         }
         None => Ok(TurnResult {
             turn: Turn::Idle,
-            packets: PacketCounts { sent: 0, lost: 0 },
+            packets: PacketCounts {
+                sent: 0,
+                lost: 0,
+                uncopied: 0,
+            },
         }),
     }
 }
@@ -136,9 +143,8 @@ fn work<M: Machine, D: Device>(
 /// A turn of a node. The link takes the packet in the box from a party, if there is one, and the
 /// node receives the packet that the link then passes on. If the link is empty, the node leads if
 /// it is to, and idles otherwise. The packets that it sends go into their boxes; one whose box is
-/// not empty is lost. At a fault the packet that was fetched is lost if memory ran out for it, and
-/// otherwise the packet that the link passed on. If memory ran out for the copy of a packet that
-/// was sent, the step was made.
+/// not empty, or for whose copy there is no memory, is lost. At a fault the packet that was fetched
+/// is lost if memory ran out for it, and otherwise the packet that the link passed on.
 pub fn node_turn<M: Machine, D: Device>(
     seat: &mut NodeSeat<M, D>,
     line: &mut FaultLine,

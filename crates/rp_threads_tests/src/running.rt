@@ -13,7 +13,8 @@ use rp_replica::Input;
 use rp_store::{Device, MemDevice};
 use rp_tasks::FaultLine;
 use rp_threads::{
-    Gate, LoopOptions, NodeEnd, NodeStart, TaskCall, TaskEnd, TaskStart, node_step, run_threads,
+    Gate, LoopOptions, NeverOver, NodeEnd, NodeStart, TaskCall, TaskEnd, TaskStart, node_step,
+    run_threads,
 };
 use std::alloc::Global;
 use std::process::Abort;
@@ -61,21 +62,11 @@ impl InStep {
 }
 
 impl Gate for InStep {
-    ghost use Rattle.std.specs.Prelude.{◌≡◌, false, true};
+    ghost use Rattle.std.specs.Prelude.{◌≡◌, true};
 
-    ghost lets = { λ node turn. true };
+    ghost lets = { λ node turn passes. passes ≡ true };
 
     ghost heard = { λ node turn sent. Unit {0} };
-
-    ghost over = { λ actor turn rests is_over. is_over ≡ false };
-
-    ghost ended = { λ actor fault. Unit {0} };
-
-    ghost stopped = { λ _. Unit {0} };
-
-    fn is_over(&self, _actor: Party, _turn: u64, _rests: bool) -> bool {
-        false
-    }
 
     fn before(&self, node: NodeId, _turn: u64) -> bool {
         if node.get() != 1 {
@@ -96,10 +87,6 @@ impl Gate for InStep {
             _ => {}
         }
     }
-
-    fn end(&self, _actor: Party, _fault: Option<Fault>) {}
-
-    fn stop(&self) {}
 }
 
 /// A node that is to start, whose link draws its random words from this seed.
@@ -340,6 +327,7 @@ where
     let options = LoopOptions {
         alloc,
         gate,
+        ending: &NeverOver,
         turns: TURNS,
     };
     let ends = run_threads(rt, nodes, tasks, options);

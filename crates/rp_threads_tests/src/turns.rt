@@ -11,7 +11,7 @@ use rp_replica::Input;
 use rp_store::{Device, MemDevice};
 use rp_tasks::FaultLine;
 use rp_threads::{
-    Gate, LoopOptions, Open, PacketCounts, TaskCall, Turn, node_loop, node_step, node_turn,
+    Ending, LoopOptions, NeverOver, Open, PacketCounts, TaskCall, Turn, node_loop, node_step, node_turn,
     task_loop,
 };
 use std::alloc::Global;
@@ -86,6 +86,7 @@ fn makes_a_call<M: Machine>(rt: &impl Abort, task: TaskSeat<M>, alloc: Global) -
     let options = LoopOptions {
         alloc,
         gate: &Open,
+        ending: &NeverOver,
         turns: 1,
     };
     let end = task_loop(task, &[call], empty_link(rt, alloc), 3, options);
@@ -129,28 +130,16 @@ struct ThreeTurns {
     ended: AtomicU64,
 }
 
-impl Gate for ThreeTurns {
-    ghost use Rattle.std.specs.Prelude.{true};
-
-    ghost lets = { λ node turn. true };
-
-    ghost heard = { λ node turn sent. Unit {0} };
-
-    ghost over = { λ actor turn rests is_over. Unit {0} };
+impl Ending for ThreeTurns {
+    ghost over = { λ actor turn rested answer. Unit {0} };
 
     ghost ended = { λ actor fault. Unit {0} };
 
     ghost stopped = { λ _. Unit {0} };
 
-    fn is_over(&self, _actor: Party, turn: u64, _rests: bool) -> bool {
-        turn > 3
+    fn is_over(&self, _actor: Party, turn: u64, _rested: u64) -> Result<bool, Fault> {
+        Ok(turn > 3)
     }
-
-    fn before(&self, _node: NodeId, _turn: u64) -> bool {
-        true
-    }
-
-    fn after(&self, _node: NodeId, _turn: u64, _sent: usize) {}
 
     fn end(&self, _actor: Party, fault: Option<Fault>) {
         if fault.is_none() {
@@ -167,13 +156,14 @@ fn idles<R: Abort, M: Machine, D: Device>(
     alloc: Global,
     program: &M::Program,
     devices: Vec<D>,
-    gate: &ThreeTurns,
+    ending: &ThreeTurns,
 ) -> u64 {
     let mut all = all_seats::<R, M, D>(rt, alloc, program, devices);
     let node = all.nodes.pop().expect(rt, "node 3");
     let options = LoopOptions {
         alloc,
-        gate,
+        gate: &Open,
+        ending,
         turns: 10,
     };
     let end = node_loop(node, empty_link(rt, alloc), 3, options);
@@ -184,15 +174,15 @@ fn idles<R: Abort, M: Machine, D: Device>(
 }
 
 #[test]
-fn a_loop_ends_when_the_gate_says_that_the_run_is_over(rt: HostRuntime) {
+fn a_loop_ends_once_the_run_is_over(rt: HostRuntime) {
     let alloc = rt.alloc();
-    let gate = ThreeTurns {
+    let ending = ThreeTurns {
         ended: AtomicU64::new(0),
     };
     let devices = empty_devices(&rt, alloc);
-    let idle = idles::<_, Tally, MemDevice>(&rt, alloc, &one_tally(&rt), devices, &gate);
+    let idle = idles::<_, Tally, MemDevice>(&rt, alloc, &one_tally(&rt), devices, &ending);
     expect_eq(&rt, idle, 3);
-    expect_eq(&rt, gate.ended.load(Ordering::SeqCst), 1);
+    expect_eq(&rt, ending.ended.load(Ordering::SeqCst), 1);
 }
 
 /// The node leads: how many of its packets are put into boxes, and how many are lost.
@@ -240,8 +230,16 @@ fn each_packet_of_a_step_is_put_into_its_box(rt: HostRuntime) {
     let devices = empty_devices(&rt, alloc);
     let (counts, boxed) = leads_twice::<_, Tally, MemDevice>(&rt, alloc, &one_tally(&rt), devices);
     let expected = [
-        PacketCounts { sent: 3, lost: 0 },
-        PacketCounts { sent: 3, lost: 3 },
+        PacketCounts {
+            sent: 3,
+            lost: 0,
+            uncopied: 0,
+        },
+        PacketCounts {
+            sent: 3,
+            lost: 3,
+            uncopied: 0,
+        },
     ];
     expect_eq(&rt, counts.as_slice(), expected.as_slice());
     expect_eq(&rt, boxed.as_slice(), [3, 0].as_slice());

@@ -6,7 +6,7 @@ use Rattle.rp_board.specs.Seats.{SeatState}
 use Rattle.rp_boxes.specs.rp_model.specs.Parts.{fresh_task}
 use Rattle.rp_threads.specs.Threads.{IsLooped}
 use Rattle.rp_live.specs.Events.{IsLive}
-use Rattle.rp_live.specs.Pace.{paced, heard, over, ended}
+use Rattle.rp_live.specs.Pace.{lets, heard, over, ended}
 use Rattle.rp_live.proofs.WholeRun.{HasRunOn, outcome, node_loops_by, nodes_ended, nodes_still, nodes_here, nodes_numbered, task_loops_by, tasks_here}
 use Rattle.rp_live.proofs.Seating.{all_mapped, mapped_length, nodes_run, tasks_fresh, zip_length}
 use Rattle.rp_live.proofs.run.live.Given as given
@@ -71,7 +71,7 @@ audited-requires-clause-few g c =
     let m = g.M.Machine in
     let starts = c.in_ok-nodes-2.nodes.items in
     let ready = mapped_length (λ s. s.seat) starts c.note_all.new.seats.items c.in_ok-nodes-2.ensures.seats in
-    let ran = zip_length (λ s e. IsLooped m.next m.answers m.begin paced heard over ended (length starts) c.args.options.turns s.seat s.line e) starts c.in_ok-nodes-3.nodes.items c.in_ok-nodes-3.ensures.nodes in
+    let ran = zip_length (λ s e. IsLooped m.next m.answers m.begin lets heard over ended (length starts) c.args.options.turns s.seat s.line e) starts c.in_ok-nodes-3.nodes.items c.in_ok-nodes-3.ensures.nodes in
     omega (arith, ran, ready, c.note_all.ensures.size, c.in_ok-nodes.ensures.seats.1.size, c.requires.config.nodes.1)
 
 pub audited-requires-clause-ended : goal.audited-requires-clause-ended

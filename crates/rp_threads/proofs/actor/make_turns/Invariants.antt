@@ -8,5 +8,5 @@ invariant-loop-done g l =
     let actor = g.A.Actor in
     record {
       ready : actor.ready (l.done + 1) l.actor;
-      turned : AreTurns g.G.Gate.over actor.party actor.rests actor.turned l.fn.actor l.done l.actor;
+      turned : AreTurns g.E.Ending.over actor.party actor.rested actor.turned l.fn.actor l.done l.actor;
     }

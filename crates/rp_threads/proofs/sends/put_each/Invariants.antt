@@ -11,8 +11,9 @@ invariant-packets g l =
     let m = g.M.Machine in
     record {
       texts : AreSentTexts l.fn.seat.part l.rest;
-      offered : IsPartOffered m.next m.answers m.begin (Node l.fn.seat.setup.number) l.fn.seat l.seat l.texts l.rest l.lost;
+      offered : IsPartOffered m.next m.answers m.begin (Node l.fn.seat.setup.number) l.fn.seat l.seat l.texts l.rest l.lost l.uncopied;
       few : l.lost + length l.rest ≤ length l.texts;
+      fewer : l.uncopied + length l.rest ≤ length l.texts;
     }
 
 abbrev pub decreases-packets : goal.decreases-packets

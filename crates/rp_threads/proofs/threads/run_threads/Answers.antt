@@ -11,13 +11,13 @@ pub scoped-requires : goal.scoped-requires
 scoped-requires g c = record {
   at = λ a. (
     record { count = c.requires.count; node_lines = c.requires.node_lines; task_lines = c.requires.task_lines; fresh = c.requires.fresh },
-    (search sendable, search sendable, search sendable, search sendable),
+    (search sendable, search sendable, search sendable, search sendable, search sendable),
   );
 }
 
 have_run : (g : given.Over) (c : After-scoped g) → let m = g.M.Machine in
-    RunsOrStops (λ ends. HaveRun m.next m.answers m.begin g.G.Gate.lets g.G.Gate.heard g.G.Gate.over g.G.Gate.ended c.args.options.turns c.args.nodes.items c.args.tasks.items ends.0.items ends.1.items)
-    (g.G.Gate.stopped true) c.scoped.result
+    RunsOrStops (λ ends. HaveRun m.next m.answers m.begin g.G.Gate.lets g.G.Gate.heard g.E.Ending.over g.E.Ending.ended c.args.options.turns c.args.nodes.items c.args.tasks.items ends.0.items ends.1.items)
+    (g.E.Ending.stopped true) c.scoped.result
 have_run g c = search rules
 
 pub returns-clause-nodes : goal.returns-clause-nodes

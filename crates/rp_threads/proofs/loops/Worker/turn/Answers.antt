@@ -1,7 +1,7 @@
 -- The gate lets the turn pass, and it was not made because of a fault.
-use Rattle.std.proofs.Common.{ℕ, inr, sym, subst, ◌∙◌}
+use Rattle.std.proofs.Common.{ℕ, true, false, inl, inr, refl, sym, subst, ◌∙◌}
 use Rattle.rp_threads.specs.Rounds.{worker_at}
-use Rattle.rp_threads.proofs.Leads.{turn_passes, unmade_at}
+use Rattle.rp_threads.proofs.Leads.{answer_is, unmade_at}
 use Rattle.rp_threads.proofs.loops.Worker.turn.Goals as goal
 
 pub returns-in-Err-clause-ok : goal.returns-in-Err-clause-ok
@@ -13,7 +13,7 @@ returns-in-Err-clause-ok g c =
     let old = worker_at a.self.now in
     let new = worker_at c.work.new.self in
     inr (
-      turn_passes m.next m.answers m.begin lets a.nodes a.turn node.result old new node.ensures c.before-2.result c.before-2.ensures c.if-not-before.false,
+      answer_is m.next m.answers m.begin lets a.nodes a.turn node.result old new node.ensures c.before-2.result true c.before-2.ensures c.if-not-before.false,
       c.in-Err.fault,
       sym c.refuses_to_lead.ensures ∙ c.if-refuses_to_lead.true,
       unmade_at m.next m.answers m.begin lets a.nodes a.turn node.result old new node.ensures c.sender.result c.is_to_lead-lead.result c.in-Err.fault c.sender.ensures c.is_to_lead-lead.ensures c.in-Err.ensures.err,
@@ -30,7 +30,7 @@ returns-in-Err-2-clause-err g c =
     let new = worker_at c.work.new.self in (
       sym c.refuses_to_lead.ensures ∙ c.if-refuses_to_lead.false,
       (
-        turn_passes m.next m.answers m.begin lets a.nodes a.turn node.result old new node.ensures c.before-2.result c.before-2.ensures c.if-not-before.false,
+        answer_is m.next m.answers m.begin lets a.nodes a.turn node.result old new node.ensures c.before-2.result true c.before-2.ensures c.if-not-before.false,
         unmade_at m.next m.answers m.begin lets a.nodes a.turn node.result old new node.ensures c.sender.result c.is_to_lead-lead.result c.in-Err.fault c.sender.ensures c.is_to_lead-lead.ensures c.in-Err.ensures.err,
       ),
     )

@@ -128,13 +128,13 @@ module _ {S P : Type 0} {next : S → Action → S} {answers : S → Action → 
   task_is_over seat end ran = record {
     looped = ran;
     why = λ none. elim (task_over (calls_at events seat.setup.number) (IsTaskTurnOf next answers begin config.nodes (calls_at events seat.setup.number))
-    (IsUnmadeTurn next answers begin config.nodes (calls_at events seat.setup.number)) end.fault turns ran.ran.done ran.ran.before ran.last ran.ran.ends none) [
-      | inl all ↦ inl all
-      | inr replied ↦
-          let made : end.made ≡ ran.last.so_far.made = ap (λ (e : TaskEnd S P). e.made) ran.is in
-          let both = all_replied (calls_at events seat.setup.number) end.seat ran.last.so_far.made ran.last.so_far.waits (subst (λ (n : ℕ). HasMade (calls_at events seat.setup.number) end.seat n ran.last.so_far.waits) made ran.made) replied in
-          inr (made ∙ both.0, both.1 ∙ sym made)
-    ];
+        (IsUnmadeTurn next answers begin config.nodes (calls_at events seat.setup.number)) end.fault turns ran.ran.done ran.ran.before ran.last ran.ran.ends none) [
+          | inl all ↦ inl all
+          | inr replied ↦
+              let made : end.made ≡ ran.last.so_far.made = ap (λ (e : TaskEnd S P). e.made) ran.is in
+              let both = all_replied (calls_at events seat.setup.number) end.seat ran.last.so_far.made ran.last.so_far.waits (subst (λ (n : ℕ). HasMade (calls_at events seat.setup.number) end.seat n ran.last.so_far.waits) made ran.made) replied in
+              inr (made ∙ both.0, both.1 ∙ sym made)
+        ];
   }
 
   -- each task made calls among the events

@@ -66,11 +66,7 @@ fn put_text<M: Machine, D: Device>(seat: &mut NodeSeat<M, D>, packet: Vec<u8>) -
 
 /// Puts a copy of a packet that the node sent into its box, as `put_text` does. If there is no
 /// memory for the copy, the packet is lost.
-fn put_copy<M: Machine, D: Device>(
-    seat: &mut NodeSeat<M, D>,
-    alloc: Global,
-    text: &[u8],
-) -> Fate
+fn put_copy<M: Machine, D: Device>(seat: &mut NodeSeat<M, D>, alloc: Global, text: &[u8]) -> Fate
     requires { IsSentText seat.old.part text.now }
     ensures { HasFate M.next M.answers M.begin (Node seat.old.setup.number) text.now
         seat.old seat.new result }
@@ -116,11 +112,7 @@ pub(crate) fn put_all<M: Machine, D: Device>(
 }
 
 /// Puts copies of packets that the node sent, one by one. Returns how many are lost.
-fn put_each<M: Machine, D: Device>(
-    seat: &mut NodeSeat<M, D>,
-    alloc: Global,
-    texts: &[u8],
-) -> Losses
+fn put_each<M: Machine, D: Device>(seat: &mut NodeSeat<M, D>, alloc: Global, texts: &[u8]) -> Losses
     requires { AreSentTexts seat.old.part texts.now }
     ensures { AreTextsOffered M.next M.answers M.begin (Node seat.old.setup.number) texts.now
         seat.old seat.new result.lost result.uncopied }

@@ -11,8 +11,8 @@ use rp_replica::Input;
 use rp_store::{Device, MemDevice};
 use rp_tasks::FaultLine;
 use rp_threads::{
-    Ending, LoopOptions, NeverOver, Open, PacketCounts, TaskCall, Turn, node_loop, node_step, node_turn,
-    task_loop,
+    Ending, LoopOptions, NeverOver, Open, PacketCounts, TaskCall, Turn, node_loop, node_step,
+    node_turn, task_loop,
 };
 use std::alloc::Global;
 use std::process::Abort;

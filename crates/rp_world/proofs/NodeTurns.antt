@@ -86,11 +86,11 @@ goes_aside f {number = number} m =
     (nothing_goes f (heard f number (now f)).whole (now f) (only_sent (world f) (world f)) (heard_by_audit (setting f) (world f) m) refl (only_sent_none (world f) (world f) refl))
 
 -- there is no node of this number
-pub goes_past : {S D P : Type 0} (f : Fields S D P) {number i me : ℕ} → SentTo f.messages.sent number (Party.ClusterNode me) → suc i ≡ me → length f.nodes ≤ i
+pub goes_past : {S D P : Type 0} (f : Fields S D P) {number i me : ℕ} → SentTo f.messages.sent number (Party.Node me) → suc i ≡ me → length f.nodes ≤ i
     → Goes f.was (heard f number f.was).whole (now f) (only_sent f.was.world (now f).world)
 goes_past f {number = number} m placed past = nothing_heard f number (now f) (heard_by_none (setting f) (world f) m (none_here f placed past)) refl
 
-module _ {S D P : Type 0} (f : Fields S D P) (at : Found f.nodes) {number : ℕ} (m : SentTo f.messages.sent number (Party.ClusterNode at.me)) where
+module _ {S D P : Type 0} (f : Fields S D P) (at : Found f.nodes) {number : ℕ} (m : SentTo f.messages.sent number (Party.Node at.me)) where
   abbrev with_node : ClusterNode S D P → Sending → ClusterState P
   with_node new later = cluster_with f (slice_set f.nodes at.place new) f.tasks later
 

@@ -18,13 +18,13 @@ use Rattle.rp_requests.specs.rp_model.specs.Effect as inputs
 use Rattle.rp_requests.specs.rp_model.specs.Parts.{Turn, fresh_running}
 use Rattle.rp_requests.specs.rp_model.specs.Says.{notes}
 use Rattle.rp_requests.specs.rp_model.specs.World.{part_at}
-use Rattle.rp_outbox.specs.Packets.{texts_of}
+use Rattle.rp_world.specs.rp_outbox.specs.Packets.{texts_of}
 use Rattle.rp_installations.specs.Pending.{noted_by}
-use Rattle.rp_replica.specs.Inputs.{effect_if_given}
+use Rattle.rp_world.specs.rp_replica.specs.Inputs.{effect_if_given}
 use Rattle.rp_requests.specs.Texts.{step_text, FitsStep, task_request_text, FitsTaskRequest}
 use Rattle.rp_requests.specs.TaskRequests.{TaskAsked, MakeCall, TakePacket, task_asked_of}
 use Rattle.rp_requests.specs.Tasks.{call_packet, reply_taken}
-use Rattle.rp_tasks.specs.Calls.{Calls, no_calls, refusal_of, with_call, with_reply}
+use Rattle.rp_requests.specs.rp_tasks.specs.Calls.{Calls, no_calls, refusal_of, with_call, with_reply}
 use Rattle.rp_requests.specs.Nodes.{NodeState, step_bytes}
 use Rattle.rp_requests.specs.Timing.{comes_early}
 use Rattle.rp_requests.specs.Requests.{Step, asked_of}

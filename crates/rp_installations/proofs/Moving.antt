@@ -17,14 +17,14 @@ use Rattle.rp_requests.specs.rp_model.specs.Effect as inputs
 use Rattle.rp_requests.specs.rp_model.specs.Parts.{Turn, fresh_running}
 use Rattle.rp_requests.specs.rp_model.specs.World.{part_at, with_part}
 use Rattle.rp_requests.specs.rp_model.specs.declared.effect.Dropped.TheVariants.{No}
-use Rattle.rp_outbox.specs.Packets.{texts_of}
+use Rattle.rp_world.specs.rp_outbox.specs.Packets.{texts_of}
 use Rattle.rp_installations.specs.Pending.{noted_by}
-use Rattle.rp_replica.specs.Inputs.{effect_if_given}
+use Rattle.rp_world.specs.rp_replica.specs.Inputs.{effect_if_given}
 use Rattle.rp_requests.specs.Texts.{step_text, FitsStep, task_request_text, FitsTaskRequest}
 use Rattle.rp_requests.specs.Buffers.{IsPutInFront}
 use Rattle.rp_requests.specs.TaskRequests.{TaskAsked, MakeCall, TakePacket, task_asked_of}
 use Rattle.rp_requests.specs.Tasks.{TaskAnswers, task_bytes, call_packet, reply_taken, once_taken, taken_text}
-use Rattle.rp_tasks.specs.Calls.{Calls, no_calls, refusal_of, with_call, with_reply}
+use Rattle.rp_requests.specs.rp_tasks.specs.Calls.{Calls, no_calls, refusal_of, with_call, with_reply}
 use Rattle.rp_requests.specs.Nodes.{NodeState, RequestAnswers, GivenAnswers, after_step, is_at_end, stored_by, step_bytes}
 use Rattle.rp_requests.specs.Timing.{comes_early, comes_late}
 use Rattle.rp_requests.specs.declared.not_taken.NotTaken.TheVariants.{Nothing}

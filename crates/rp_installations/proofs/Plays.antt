@@ -13,7 +13,7 @@ use Rattle.rp_requests.specs.rp_model.specs.Effect.{NodeInput}
 use Rattle.rp_requests.specs.rp_model.specs.Effect as inputs
 use Rattle.rp_requests.specs.rp_model.specs.Says.{says, says_to_all, says_to_others}
 use Rattle.rp_requests.specs.rp_model.specs.World.{part_at}
-use Rattle.rp_outbox.specs.Packets.{texts_of}
+use Rattle.rp_world.specs.rp_outbox.specs.Packets.{texts_of}
 use Rattle.rp_requests.specs.Texts.{step_text, FitsStep, task_request_text, FitsTaskRequest}
 use Rattle.rp_requests.specs.TaskRequests.{TaskAsked, task_asked_of}
 use Rattle.rp_requests.specs.Nodes.{step_bytes}

@@ -20,7 +20,7 @@ use Rattle.rp_base.specs.declared.action.Action.{Action}
 use Rattle.rp_base.specs.declared.action.Action.TheVariants.{Call}
 use Rattle.rp_installations.specs.Sites.{unopened_task}
 use Rattle.rp_requests.specs.rp_model.specs.World.{part_at, with_part}
-use Rattle.rp_tasks.specs.Calls.{no_calls}
+use Rattle.rp_requests.specs.rp_tasks.specs.Calls.{no_calls}
 use Rattle.rp_installations.specs.Breaches.{OpensTaskAgain, TakesOldReply}
 use Rattle.rp_installations.proofs.Deeds.{Break, some_is, on}
 use Rattle.rp_installations.proofs.Kept.{answering, answering_fits, reply_packet, reply_is}

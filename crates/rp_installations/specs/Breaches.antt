@@ -12,7 +12,7 @@ use Rattle.rp_machine.specs.TallyRule.{tally_image}
 use Rattle.rp_requests.specs.rp_model.specs.World.{part_at, with_part}
 use Rattle.rp_requests.specs.Nodes.{NodeState}
 use Rattle.rp_requests.specs.Tasks.{call_packet}
-use Rattle.rp_tasks.specs.Calls.{no_calls}
+use Rattle.rp_requests.specs.rp_tasks.specs.Calls.{no_calls}
 use Rattle.rp_installations.specs.Moves.{Move, OpensFrom, AnswersBy, IsPacketIn}
 use Rattle.rp_installations.specs.Outcomes.{IsOpenAt, IsAllSynced, applied_by}
 use Rattle.rp_installations.specs.Sites.{StepPackets, NodeSite, TaskSite, Installation}

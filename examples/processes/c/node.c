@@ -1,11 +1,7 @@
 /* A node of a deck as a process: a file is its device, and packets are datagrams.
  *
- *   node DECK NUMBER NODES DEVICE init
  *   node DECK NUMBER NODES DEVICE PORT [TO [ranges]]
  *
- * The first makes a fresh device, once in the life of an installation, and nothing else ever does: a node that is started
- * without its device ends. A fresh device in place of one that was lost has forgotten what its node said, and the nodes then
- * may decide a second action at a position.
  * It gets at PORT + NUMBER and sends to TO + the receiver's party (PORT if TO is left out). With `ranges` it asks for promises
  * ahead (`ask_ahead`). What the theorem asks of a caller (docs/C.md) is kept at the lines that are marked by RULE. */
 #include <fcntl.h>
@@ -14,7 +10,7 @@
 
 #include "udp.h"
 
-enum { BATCH = 64, WAIT_MS = 2, MOST_PACKETS = 128, WINDOW = 64, AHEAD = 16 };
+enum { BATCH = 64, WAIT_MS = 2, MOST_PACKETS = 128, ASK_MS = 1000, WINDOW = 64, AHEAD = 16, IN_FLIGHT = 8 };
 
 /* Packets one after another, and where each ends. */
 struct packets {
@@ -105,6 +101,18 @@ static void ask_another(void) {
   keep(rp_node_ask(&node, asked, &room));
 }
 
+/* Whether it is time to ask, though the node may not know that it misses something: it was away, or the last question brought
+ * a whole window, so there may be more. */
+static bool is_to_ask(uint64_t now) {
+  static uint64_t asked;
+  static uint32_t before;
+  uint32_t applied = 0;
+  (void)rp_node_applied(&node, &applied);
+  if (now - asked < ASK_MS && applied < before + WINDOW) return false;
+  asked = now, before = applied;
+  return true;
+}
+
 static bool with_ranges;
 static uint32_t led, asked_to; /* where this node led last, and where the range that it asked for last ends */
 
@@ -132,18 +140,29 @@ static void lead(uint32_t position) {
   ask_ahead();
 }
 
-/* Does what the advice says, until it says nothing; a turn of the node's patience is a millisecond. */
-static void do_what_is_advised(void) {
+/* A node that led last, and whose position was decided, leads at once for what is pending: it need not wait. With `ranges` it
+ * does not wait for the decision either, and leads for each pending item at the next position. A proposal that is lost leaves
+ * a gap, where the advice leads again after its wait; so a node is not further ahead than tasks have calls, one each. */
+static bool leads_on(void) {
+  uint32_t applied = 0, pending = 0, last = last_of(with_ranges ? IN_FLIGHT : 1);
+  (void)rp_node_applied(&node, &applied);
+  (void)rp_node_pending(&node, &pending);
+  if (led == 0 || led >= last || pending == 0) return false;
+  for (; pending > 0 && led < last; pending--) lead((led > applied ? led : applied) + 1);
+  return true;
+}
+
+/* Leads or asks, if it is time to; a turn of the node's patience is a millisecond. */
+static void lead_or_ask(void) {
   static uint64_t before;
   uint64_t now = milliseconds(), passed = before == 0 ? 0 : now - before;
-  rp_advice advice = {RP_ADVICE_NOTHING, 0};
+  rp_advice advice;
   before = now;
-  do {
-    if (rp_node_advise(&node, &patience, passed, &advice) != RP_DONE) return;
-    if (advice.kind == RP_ADVICE_LEAD) lead(advice.position);
-    if (advice.kind == RP_ADVICE_ASK) ask_another();
-    passed = 0;
-  } while (advice.kind != RP_ADVICE_NOTHING);
+  if (is_to_ask(now)) ask_another();
+  if (leads_on()) return;
+  if (rp_node_advise(&node, &patience, passed, &advice) != RP_DONE) return;
+  if (advice.kind == RP_ADVICE_LEAD) lead(advice.position);
+  if (advice.kind == RP_ADVICE_ASK) ask_another();
 }
 
 /* Once the log has ended: the deck with which the station goes on over fresh devices (docs/C.md, "The end of the log"), in
@@ -168,32 +187,17 @@ static void put_next_deck(const uint8_t *deck, size_t count, const char *name) {
   if (rename(part, whole) != 0) stop(whole);
 }
 
-/* What is in a folder is there after a stop only once the folder is synced. */
-static void sync_folder_of(const char *name) {
-  const char *end = strrchr(name, '/');
-  char folder[4096] = ".";
-  if (end != NULL) snprintf(folder, sizeof folder, "%.*s", end == name ? 1 : (int)(end - name), name);
-  int file = open(folder, O_RDONLY | O_CLOEXEC);
-  if (file < 0 || fsync(file) != 0 || close(file) != 0) stop(folder);
-}
-
-/* Makes the device of a node that never ran: a file with its header, which is not there yet. */
-static int make_device(const uint8_t *header, const char *name) {
-  int file = open(name, O_WRONLY | O_CREAT | O_EXCL | O_CLOEXEC, 0644);
-  if (file < 0 || write(file, header, RP_HEADER_BYTES) != RP_HEADER_BYTES || fdatasync(file) != 0 || close(file) != 0) {
-    stop(name);
-  }
-  sync_folder_of(name);
-  return 0;
-}
-
-/* Opens the node over its device. */
-static void open_node(const uint8_t *deck, size_t count, const char *name) {
+/* Opens the node over its device, which gets a header if it is fresh. */
+static void open_node(const uint8_t *deck, size_t count, const uint8_t *header, const char *name) {
   static uint8_t held[1 << 24];
   struct stat status;
   rp_found found;
-  device = open(name, O_RDWR | O_CLOEXEC);
+  device = open(name, O_RDWR | O_CREAT | O_CLOEXEC, 0644);
   if (device < 0 || flock(device, LOCK_EX) != 0 || fstat(device, &status) != 0) stop(name); /* RULE 3: one handle */
+  if (status.st_size < RP_HEADER_BYTES) {
+    if (pwrite(device, header, RP_HEADER_BYTES, 0) != RP_HEADER_BYTES) stop(name);
+    status.st_size = RP_HEADER_BYTES;
+  }
   if (pread(device, held, sizeof held, 0) != status.st_size) stop(name);
   uint8_t result = rp_device_open(deck, count, me, held, (size_t)status.st_size, &node, &found); /* RULE 3: its own device */
   if (result != RP_DONE || found.tail == RP_TAIL_DAMAGED) {
@@ -208,7 +212,7 @@ int main(int count, char **words) {
   static uint8_t deck[MOST_DECK];
   uint8_t header[RP_HEADER_BYTES];
   if (count < 6) {
-    fprintf(stderr, "node DECK NUMBER NODES DEVICE init, or node DECK NUMBER NODES DEVICE PORT [TO [ranges]]\n");
+    fprintf(stderr, "node DECK NUMBER NODES DEVICE PORT [TO [ranges]]\n");
     return 2;
   }
   size_t length = read_deck(words[1], deck);
@@ -216,12 +220,11 @@ int main(int count, char **words) {
   nodes = (uint8_t)atoi(words[3]);
   with_ranges = count > 7 && strcmp(words[7], "ranges") == 0;
   if (rp_device_header(deck, length, me, header, sizeof header) != RP_DONE) stop("the deck has no such node");
-  if (strcmp(words[5], "init") == 0) return make_device(header, words[4]);
-  open_node(deck, length, words[4]);
+  open_node(deck, length, header, words[4]);
   net = link_of(header, me, atoi(words[5]), atoi(words[count > 6 ? 6 : 5]));
   for (;;) {
     receive_packets();
-    do_what_is_advised();
+    lead_or_ask();
     store_records();   /* RULE 1: what the steps gave is synced .. */
     hand_on_packets(); /* .. before a packet of theirs leaves */
     put_next_deck(deck, length, words[4]);

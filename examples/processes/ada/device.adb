@@ -1,3 +1,4 @@
+with Ada.Directories;
 with Ada.Text_IO;
 with GNAT.OS_Lib;
 with Interfaces.C.Strings;
@@ -28,7 +29,9 @@ package body Device is
    function C_Seek (File : Int; Place : Long; From : Int) return Long
      with Import, Convention => C, External_Name => "lseek";
 
-   Read_Write_Create  : constant := 8#2000102#;  --  with close on exec
+   Read_Write         : constant := 8#2000002#;  --  with close on exec
+   Write_Create_New   : constant := 8#2000301#;
+   Read_Only          : constant := 8#2000000#;
    Write_Create_Empty : constant := 8#2001101#;
    Exclusive          : constant := 2;
 
@@ -53,23 +56,35 @@ package body Device is
       Must (C_Sync (File) = 0, "sync");
    end Sync;
 
-   procedure Open (Deck : RP.Bytes; Number : RP.Byte; Name : String; Node : in out RP.Node) is
-      Header : RP.Bytes (1 .. RP.Header_Bytes);
-      Length : Long;
-      Found  : RP.Found;
+   --  What is in a folder is there after a stop only once the folder is synced.
+   procedure Sync_Folder_Of (Name : String) is
+      Folder : Int;
    begin
-      File := C_Open (Interfaces.C.Strings.New_String (Name), Read_Write_Create, 8#644#);
-      Must (File >= 0 and then C_Lock (File, Exclusive) = 0, Name);  --  RULE 3: one handle
+      Folder :=
+        C_Open (Interfaces.C.Strings.New_String (Ada.Directories.Containing_Directory (Name)), Read_Only, 0);
+      Must (Folder >= 0 and then C_Sync (Folder) = 0, "its folder");
+   end Sync_Folder_Of;
+
+   procedure Make (Deck : RP.Bytes; Number : RP.Byte; Name : String) is
+      Header : RP.Bytes (1 .. RP.Header_Bytes);
+   begin
       Must
         (RP.Device_Header (Deck'Address, Deck'Length, Number, Header'Address, Header'Length) = RP.Done,
          "the deck has no such node");
+      File := C_Open (Interfaces.C.Strings.New_String (Name), Write_Create_New, 8#644#);
+      Must (File >= 0, Name);
+      Append (Header);
+      Sync;
+      Sync_Folder_Of (Name);
+   end Make;
+
+   procedure Open (Deck : RP.Bytes; Number : RP.Byte; Name : String; Node : in out RP.Node) is
+      Length : Long;
+      Found  : RP.Found;
+   begin
+      File := C_Open (Interfaces.C.Strings.New_String (Name), Read_Write, 0);
+      Must (File >= 0 and then C_Lock (File, Exclusive) = 0, Name);  --  RULE 3: one handle
       Length := C_Read (File, Held'Address, Held'Length);
-      if Length < RP.Header_Bytes then
-         Must (C_Truncate (File, 0) = 0 and then C_Seek (File, 0, 0) = 0, "truncate");
-         Append (Header);
-         Held (Header'Range) := Header;
-         Length := RP.Header_Bytes;
-      end if;
       Must  --  RULE 3: its own device
         (RP.Device_Open (Deck'Address, Deck'Length, Number, Held'Address, Count (Length), Node, Found) = RP.Done
          and then Found.Tail /= RP.Damaged_Tail,

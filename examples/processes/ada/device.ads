@@ -4,9 +4,12 @@ with RP;
 
 package Device is
 
+   procedure Make (Deck : RP.Bytes; Number : RP.Byte; Name : String);
+   --  Makes the device of a node that never ran: a file with its header. The program ends if there is such a file.
+
    procedure Open (Deck : RP.Bytes; Number : RP.Byte; Name : String; Node : in out RP.Node);
-   --  Opens the node of this number of the deck over the file, which gets a header if it is fresh. The program ends
-   --  if it is another's device or a damaged one.
+   --  Opens the node of this number of the deck over the file. The program ends if there is none, or if it is another's
+   --  device or a damaged one.
 
    procedure Append (Bytes : RP.Bytes);
    procedure Sync;

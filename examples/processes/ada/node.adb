@@ -1,8 +1,10 @@
 --  A node of a deck as a process, in Ada under Ravenscar, beside those of c/node.c: a file is its device, and packets are
 --  datagrams.
 --
+--     node DECK NUMBER NODES DEVICE init
 --     node DECK NUMBER NODES DEVICE PORT [TO]
 --
+--  The first makes a fresh device, once in the life of an installation; nothing else does (docs/C.md, "Fresh devices").
 --  What the theorem asks of a caller (docs/C.md) is kept at the lines that are marked by RULE, here and in device.adb.
 
 with Ada.Command_Line;
@@ -202,6 +204,10 @@ procedure Node with Priority => 10 is
    end Lead_Or_Ask;
 
 begin
+   if Argument (5) = "init" then
+      Device.Make (Deck, Me, Argument (4));
+      GNAT.OS_Lib.OS_Exit (0);
+   end if;
    Device.Open (Deck, Me, Argument (4), Handle);
    Udp.Open (Link, Argument (1), Me, Number (5), Number (if Argument_Count > 5 then 6 else 5));
    loop

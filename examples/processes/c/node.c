@@ -1,7 +1,11 @@
 /* A node of a deck as a process: a file is its device, and packets are datagrams.
  *
+ *   node DECK NUMBER NODES DEVICE init
  *   node DECK NUMBER NODES DEVICE PORT [TO [ranges]]
  *
+ * The first makes a fresh device, once in the life of an installation, and nothing else ever does: a node that is started
+ * without its device ends. A fresh device in place of one that was lost has forgotten what its node said, and the nodes then
+ * may decide a second action at a position.
  * It gets at PORT + NUMBER and sends to TO + the receiver's party (PORT if TO is left out). With `ranges` it asks for promises
  * ahead (`ask_ahead`). What the theorem asks of a caller (docs/C.md) is kept at the lines that are marked by RULE. */
 #include <fcntl.h>
@@ -187,17 +191,32 @@ static void put_next_deck(const uint8_t *deck, size_t count, const char *name) {
   if (rename(part, whole) != 0) stop(whole);
 }
 
-/* Opens the node over its device, which gets a header if it is fresh. */
-static void open_node(const uint8_t *deck, size_t count, const uint8_t *header, const char *name) {
+/* What is in a folder is there after a stop only once the folder is synced. */
+static void sync_folder_of(const char *name) {
+  const char *end = strrchr(name, '/');
+  char folder[4096] = ".";
+  if (end != NULL) snprintf(folder, sizeof folder, "%.*s", end == name ? 1 : (int)(end - name), name);
+  int file = open(folder, O_RDONLY | O_CLOEXEC);
+  if (file < 0 || fsync(file) != 0 || close(file) != 0) stop(folder);
+}
+
+/* Makes the device of a node that never ran: a file with its header, which is not there yet. */
+static int make_device(const uint8_t *header, const char *name) {
+  int file = open(name, O_WRONLY | O_CREAT | O_EXCL | O_CLOEXEC, 0644);
+  if (file < 0 || write(file, header, RP_HEADER_BYTES) != RP_HEADER_BYTES || fdatasync(file) != 0 || close(file) != 0) {
+    stop(name);
+  }
+  sync_folder_of(name);
+  return 0;
+}
+
+/* Opens the node over its device. */
+static void open_node(const uint8_t *deck, size_t count, const char *name) {
   static uint8_t held[1 << 24];
   struct stat status;
   rp_found found;
-  device = open(name, O_RDWR | O_CREAT | O_CLOEXEC, 0644);
+  device = open(name, O_RDWR | O_CLOEXEC);
   if (device < 0 || flock(device, LOCK_EX) != 0 || fstat(device, &status) != 0) stop(name); /* RULE 3: one handle */
-  if (status.st_size < RP_HEADER_BYTES) {
-    if (pwrite(device, header, RP_HEADER_BYTES, 0) != RP_HEADER_BYTES) stop(name);
-    status.st_size = RP_HEADER_BYTES;
-  }
   if (pread(device, held, sizeof held, 0) != status.st_size) stop(name);
   uint8_t result = rp_device_open(deck, count, me, held, (size_t)status.st_size, &node, &found); /* RULE 3: its own device */
   if (result != RP_DONE || found.tail == RP_TAIL_DAMAGED) {
@@ -212,7 +231,7 @@ int main(int count, char **words) {
   static uint8_t deck[MOST_DECK];
   uint8_t header[RP_HEADER_BYTES];
   if (count < 6) {
-    fprintf(stderr, "node DECK NUMBER NODES DEVICE PORT [TO [ranges]]\n");
+    fprintf(stderr, "node DECK NUMBER NODES DEVICE init, or node DECK NUMBER NODES DEVICE PORT [TO [ranges]]\n");
     return 2;
   }
   size_t length = read_deck(words[1], deck);
@@ -220,7 +239,8 @@ int main(int count, char **words) {
   nodes = (uint8_t)atoi(words[3]);
   with_ranges = count > 7 && strcmp(words[7], "ranges") == 0;
   if (rp_device_header(deck, length, me, header, sizeof header) != RP_DONE) stop("the deck has no such node");
-  open_node(deck, length, header, words[4]);
+  if (strcmp(words[5], "init") == 0) return make_device(header, words[4]);
+  open_node(deck, length, words[4]);
   net = link_of(header, me, atoi(words[5]), atoi(words[count > 6 ? 6 : 5]));
   for (;;) {
     receive_packets();

@@ -1,5 +1,5 @@
 -- The packets of a step, each offered to its box.
-use Rattle.std.proofs.Common.{◌≡◌, ◌≢◌, ℕ, ◌+◌, ◌-◌, ◌≤◌, Bool, true, false, if◌then◌else◌, Result, Ok, Err, List, [], ◌∷◌, ◌++◌, length, take, drop, inl, inr, refl, sym, ap, subst, ◌∙◌, arith, append_assoc}
+use Rattle.std.proofs.Common.{◌≡◌, ◌≢◌, ℕ, ◌+◌, ◌-◌, ◌<◌, ◌≤◌, Bool, true, false, if◌then◌else◌, Result, Ok, Err, List, [], ◌∷◌, ◌++◌, length, take, drop, inl, inr, refl, sym, ap, subst, ◌∙◌, arith, append_assoc}
 use Rattle.std.proofs.lemmas.List.{append-nil, length-drop, take-append-drop}
 use Rattle.std.specs.Int.{from_bool}
 use Rattle.rp_base.specs.Sets.{Has}
@@ -59,6 +59,11 @@ pub one_less : (left : List ℕ) (len lost more all : ℕ) → 1 ≤ len → len
 one_less left len lost more all some within one few =
     let fewer : length (drop len left) ≡ length left - len = length-drop len left in
     omega (arith, some, within, one, few, fewer)
+
+pub fewer_left : (left : List ℕ) (len : ℕ) → 1 ≤ len → len ≤ length left → length (drop len left) < length left
+fewer_left left len some within =
+    let fewer : length (drop len left) ≡ length left - len = length-drop len left in
+    omega (arith, some, within, fewer)
 
 -- what was sent is so, whatever was put since
 pub still_sent_text : {P : Type 0} (old new : SeatState P) (text : List ℕ) → HasOnlyPut old new → IsSentText old.part text → IsSentText new.part text

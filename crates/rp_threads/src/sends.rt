@@ -1,6 +1,6 @@
 //! Puts the packets of a step into their boxes.
 
-ghost use Rattle.std.specs.Prelude.{◌≡◌, ◌≤◌};
+ghost use Rattle.std.specs.Prelude.{◌≡◌, ◌≤◌, false};
 ghost use Rattle.rp_codec.specs.declared.packet.Party.TheVariants.{Node};
 ghost use Rattle.rp_board.specs.Seats.{IsSentText};
 ghost use Rattle.rp_threads.specs.Turns.{AreSent, AreSentTexts, AreTextsOffered, HasFate, IsAllOffered, is_lost, is_uncopied};

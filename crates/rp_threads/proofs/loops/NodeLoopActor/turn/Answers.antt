@@ -20,7 +20,7 @@ returns-clause-ready g c =
     (c.requires.0, c.turn.ensures.held, ap (λ (n : ℕ). n + 1) total)
 
 pub returns-clause-ok : goal.returns-clause-ok
-returns-clause-ok g c = (refl, record { made = c.in_ok-made.made; turns = c.in_ok-made.ensures.ok; counts = c.count.ensures; rests = c.last_stirred.ensures.0; rests_if = c.last_stirred.ensures.1; stirred = c.last_stirred.ensures.2 })
+returns-clause-ok g c = (refl, record { made = c.in_ok-made.made; turns = c.in_ok-made.ensures.ok; counts = c.count.ensures; rests = c.last_stirred-self.ensures.0; rests_if = c.last_stirred-self.ensures.1; stirred = c.last_stirred-self.ensures.2 })
 
 pub returns-in_err-made-clause-err : goal.returns-in_err-made-clause-err
 returns-in_err-made-clause-err g c =

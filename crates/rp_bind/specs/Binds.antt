@@ -29,14 +29,11 @@ module _ {Y S : Type 0} where
   first_bad_among (operations ∷ rest) =
       or_else (first_bad (key_names operations)) (first_bad_among rest)
 
--- the first name of a deck that is none of Ada: a task's, an object's, an operation's, an interrupt's,
--- or a timing event's
+-- the first name of a deck that is none of Ada: a task's, an object's, or an operation's
 abbrev pub first_bad_of : Declared → Option BadNameText
 first_bad_of declared =
     or_else (first_bad (key_names declared.tasks))
-    (or_else (first_bad (set_names declared.objects))
-    (or_else (first_bad_among declared.operations.items)
-    (or_else (first_bad (key_names declared.interrupts)) (first_bad (key_names declared.timers)))))
+    (or_else (first_bad (set_names declared.objects)) (first_bad_among declared.operations.items))
 
 -- the packages, or the line that says which name is bad and why
 abbrev pub Binds : Language → Declared → Binding → Type 0

@@ -16,48 +16,23 @@ use Rattle.rp_deck_declarations.specs.declared.deck_program.DeckProgram.TheVaria
 use Rattle.rp_bind.specs.declared.lines.Kind.{Kind}
 use Rattle.rp_bind.specs.declared.lines.Kind.TheVariants.{Value, Truth, Procedure, Entry}
 use Rattle.rp_bind.specs.declared.lines.Language.{Language}
-use Rattle.rp_bind.specs.declared.lines.Language.TheVariants.{Ada, Local, C}
-use Rattle.rp_deck_declarations.specs.declared.deck_program.Task.{Task}
-use Rattle.rp_deck_declarations.specs.DeclaredViews.{timer_handlers}
-use Rattle.rp_deck_declarations.specs.rp_object.specs.declared.program.Handler.{Handler}
-use Rattle.rp_bind_local.specs.Bodies.{local_text}
-use Rattle.rp_bind_local.specs.Numbered.{numbered}
-use Rattle.rp_bind.specs.Texts.{object_head, object_end, operation_lines, task_constant, timer_lines}
+use Rattle.rp_bind.specs.declared.lines.Language.TheVariants.{Ada, C}
+use Rattle.rp_bind.specs.Texts.{object_head, object_end, operation_lines, task_constant}
 
 -- what is before the tasks, between them and the objects, and after the objects
 abbrev pub head : Language → List ℕ
 head Ada = concat (
-    codes "--  The protected objects of a deck: do not edit. Written by `rp_console bind\n" ∷
-    codes "--  --ada`. The body for replicated objects is ada/deck_objects.adb, and that\n" ∷
-    codes "--  for objects on one machine is what `bind --ada --local` prints.\n" ∷
-    codes "--  Call_Of_An_Object makes a call and waits for its reply: it returns its\n" ∷
-    codes "--  value, or raises what the operation raised.\n\n" ∷
+    codes "--  The protected objects of a deck: do not edit. Written by `rp_console bind --ada`.\n" ∷
+    codes "--  Call_Of_An_Object makes a call and waits for its reply: it returns its value, or " ∷
+    codes "raises what the\n--  operation raised.\n\n" ∷
     codes "with Interfaces;\nwith RP_Calls;\n\ngeneric\n" ∷
     codes "   with function Call_Of_An_Object\n" ∷
     codes "     (Object, Kind, Index : Interfaces.Unsigned_8;\n" ∷
-    codes "      Argument            : Interfaces.Integer_64)\n" ∷
-    codes "      return Interfaces.Integer_64;\n" ∷
-    codes "   with procedure Note_An_Interrupt\n" ∷
-    codes "     (Source     : Interfaces.Unsigned_8;\n" ∷
-    codes "      Occurrence : Interfaces.Unsigned_32) is null;\n" ∷
-    codes "   with procedure Note_A_Tick_Of_Time\n" ∷
-    codes "     (Now : Interfaces.Unsigned_32) is null;\n" ∷
+    codes "      Argument            : Interfaces.Integer_64) return Interfaces.Integer_64;\n" ∷
     codes "package Deck_Objects is\n\n" ∷
-    codes "   subtype Number_Of_This_Deck is Interfaces.Unsigned_8;\n" ∷
-    codes "   subtype Value_Of_This_Deck is Interfaces.Integer_64;\n" ∷
-    codes "   subtype Count_Of_This_Deck is Interfaces.Unsigned_32;\n\n" ∷
-    codes "   function Call_Of_This_Deck\n" ∷
-    codes "     (Object, Kind, Index : Number_Of_This_Deck;\n" ∷
-    codes "      Argument            : Value_Of_This_Deck)\n" ∷
-    codes "      return Value_Of_This_Deck;\n\n" ∷
-    codes "   procedure Interrupt_Of_This_Deck\n" ∷
-    codes "     (Source     : Number_Of_This_Deck;\n" ∷
-    codes "      Occurrence : Count_Of_This_Deck);\n\n" ∷
-    codes "   procedure Tick_Of_This_Deck (Now : Count_Of_This_Deck);\n\n" ∷
-    codes "   package Calls_Of_This_Deck is new RP_Calls (Call_Of_This_Deck);\n\n" ∷
+    codes "   package Calls_Of_This_Deck is new RP_Calls (Call_Of_An_Object);\n\n" ∷
     codes "   package Tasks_Of_This_Deck is\n" ∷
     [])
-head Local = head Ada
 head C = concat (
     codes "/* The protected objects of a deck: do not edit. Written by `rp_console bind --c`. */\n" ∷
     codes "#ifndef RP_DECK_OBJECTS_H\n#define RP_DECK_OBJECTS_H\n\n" ∷
@@ -66,13 +41,16 @@ head C = concat (
 
 abbrev pub between : Language → List ℕ
 between Ada = codes "   end Tasks_Of_This_Deck;\n"
-between Local = between Ada
 between C = codes "};\n"
 
 abbrev pub end : Language → List ℕ
 end Ada = codes "\nend Deck_Objects;\n"
-end Local = end Ada
 end C = codes "\n#endif\n"
+
+-- the lines of each of these, whose numbers begin with this one
+abbrev pub numbered : {X : Type 0} → (ℕ → X → List ℕ) → ℕ → List X → List ℕ
+numbered lines number [] = []
+numbered lines number (x ∷ rest) = lines number x ++ numbered lines (number + 1) rest
 
 module _ {Z : Type 0} where
   -- the tasks, numbered from 1 in declared order
@@ -138,62 +116,8 @@ objects_text language declared =
     numbered (λ number name. object_text language declared number (string_bytes name)) 1
     declared.objects.keys
 
--- the packages of Ada that are before those of the objects: the priorities of the tasks, the
--- ceilings of the objects, the numbers of the interrupts, and the timing events
-abbrev pub ceiling_of : Option ObjectDeclaration → ℕ
-ceiling_of None = 30
-ceiling_of (Some object) = object.ceiling
-
-abbrev pub ceiling_at : DeckProgram → ℕ → ℕ
-ceiling_at (programs.Tally count) number = 30
-ceiling_at (programs.Objects program) number =
-    ceiling_of (slice_get (arc_value program.declarations).objects.items (number - 1))
-
-abbrev pub owner_of : Option Handler → ℕ
-owner_of None = 0
-owner_of (Some handler) = handler.object
-
-abbrev pub owner_at : DeckProgram → ℕ → ℕ
-owner_at program number = owner_of (slice_get (timer_handlers program) (number - 1))
-
-module _ {Z : Type 0} where
-  abbrev pub priorities_text : List (String Z × Task) → List ℕ
-  priorities_text tasks =
-      flat_map (λ entry. task_constant Ada (string_bytes entry.0) entry.1.priority) tasks
-
-  abbrev pub ceilings_text : DeckProgram → List (String Z) → List ℕ
-  ceilings_text program names =
-      numbered (λ number name. task_constant Ada (string_bytes name) (ceiling_at program number)) 1 names
-
-  abbrev pub timers_text : DeckProgram → List (String Z) → List ℕ
-  timers_text program names =
-      numbered (λ number name. timer_lines (string_bytes name) (owner_at program number) number) 1 names
-
-abbrev pub ada_constants_text : Declared → List ℕ
-ada_constants_text declared =
-    codes "\n   package Priorities_Of_Tasks is\n"
-    ++ (priorities_text declared.tasks.entries
-    ++ (codes "   end Priorities_Of_Tasks;\n\n   package Ceilings_Of_Objects is\n"
-    ++ (ceilings_text declared.program declared.objects.keys
-    ++ (codes "   end Ceilings_Of_Objects;\n\n   package Interrupts_Of_This_Deck is\n"
-    ++ (tasks_text Ada (keys declared.interrupts)
-    ++ (codes "   end Interrupts_Of_This_Deck;\n\n   package Timing_Events_Of_This_Deck is\n"
-    ++ (timers_text declared.program (keys declared.timers)
-    ++ codes "   end Timing_Events_Of_This_Deck;\n")))))))
-
-abbrev pub constants_text : Language → Declared → List ℕ
-constants_text Ada declared = ada_constants_text declared
-constants_text Local declared = ada_constants_text declared
-constants_text C declared = []
-
 -- the packages of what a deck declares
-abbrev pub declarations_text : Language → Declared → List ℕ
-declarations_text language declared =
-    text_before_objects language (keys declared.tasks)
-    ++ (constants_text language declared ++ (objects_text language declared ++ end language))
-
--- these, or the body of their package on one machine
 abbrev pub packages_text : Language → Declared → List ℕ
-packages_text Ada declared = declarations_text Ada declared
-packages_text Local declared = local_text declared
-packages_text C declared = declarations_text C declared
+packages_text language declared =
+    text_before_objects language (keys declared.tasks)
+    ++ (objects_text language declared ++ end language)

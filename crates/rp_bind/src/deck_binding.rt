@@ -58,23 +58,17 @@ fn bind_declared(
     }
 }
 
-/// The first name of a deck that is none of Ada: among its tasks, its objects, the operations of each
-/// object, its interrupts and its timing events.
+/// The first name of a deck that is none of Ada: among its tasks, its objects, and then among the
+/// operations of each object.
 fn first_bad_of(declared: &Declared) -> Option<BadName<'_>>
     ensures { option_map bad_name_text result ≡ first_bad_of declared.now }
 {
     if let Some(bad) = first_bad(declared.tasks.keys().as_slice()) {
         return Some(bad);
     }
-    if let Some(bad) = first_bad(declared.objects.as_slice()) {
-        return Some(bad);
-    }
-    if let Some(bad) = first_bad_among(&declared.operations) {
-        return Some(bad);
-    }
-    match first_bad(declared.interrupts.keys().as_slice()) {
+    match first_bad(declared.objects.as_slice()) {
         Some(bad) => Some(bad),
-        None => first_bad(declared.timers.keys().as_slice()),
+        None => first_bad_among(&declared.operations),
     }
 }
 

@@ -3,7 +3,6 @@ mod Reaching
 mod NodeMoves
 mod TaskMoves
 mod Level
-mod InTime
 mod Events
 mod Reopening
 mod Devices

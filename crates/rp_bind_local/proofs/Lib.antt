@@ -1,2 +1,0 @@
-pub mod Numbered
-mod Adding

@@ -409,6 +409,12 @@ package body RP is
       Number : in out Interfaces.Unsigned_32) return Status is
      (Number_By (Handle, (Counted, Caller), Number));
 
+   function Node_Occurred
+     (Handle : in out Node;
+      Source : Byte;
+      Number : in out Interfaces.Unsigned_32) return Status is
+     (Number_By (Handle, (Occurred, Source), Number));
+
    --  The packet that a request to a task gives.
    function Packet_By
      (Handle  : in out Task_Stub;

@@ -107,7 +107,8 @@ package RP is
    --  2. A node or a task receives packets that nodes and tasks of the same deck handed on, byte for byte,
    --     early, late, again or never: a packet that nobody sent may tell of a vote that nobody cast.
    --  3. A node has one open handle at a time, opened over its own device, and a task is opened once: two
-   --     handles of one node vote twice, and a task that counts from 1 again gets the first old reply.
+   --     handles of one node vote twice, and a task that counts from 1 again gets the last old reply, or
+   --     none for ever.
    --  None of them can be left out (docs/C.md, proved): for each there are callers who break it alone, and
    --  two nodes that have applied different actions then.
    --
@@ -172,6 +173,13 @@ package RP is
    Dropped_Foreign : constant Dropped_Kind := 2;  --  a packet for another node, from a node or for a
                                                   --  position that the deck does not have, or in a ballot
                                                   --  that its sender does not own
+   Dropped_Early   : constant Dropped_Kind := 3;  --  a call that cannot count at this node now: a call of its
+                                                  --  task below it did not count here, or its task waits. The
+                                                  --  node is as if the packet were lost, and there is nothing
+                                                  --  to store and nothing to send; the task sends the call
+                                                  --  again later
+   Dropped_Stale   : constant Dropped_Kind := 4;  --  an interrupt: this occurrence of its source or a higher
+                                                  --  one counted
 
    --  What is after the whole records of a device.
 
@@ -235,6 +243,8 @@ package RP is
                                        --  them as its own action. 4 bytes
    Counted     : constant Byte := 21;  --  a question: the number of the last call of a task that counted at
                                        --  this node, 0 if none did. The task, 1 to 8 (1). 4 bytes
+   Occurred    : constant Byte := 22;  --  a question: the last occurrence of an interrupt's source that counted at
+                                       --  this node, 0 if none did. The source, 1 to 8 (1). 4 bytes
 
    function Node_Open
      (Deck   : System.Address;
@@ -293,8 +303,8 @@ package RP is
    --  Short_Answer: the array has fewer than Length.Used bytes. A step needs Step_Bytes and is not made.
    --  Long_Answer: the step was made, its answer has Length.Used bytes, and Answer is as it was:
    --  Last_Answer gives it into a longer array. No step is known to need that.
-   --  Wrong_Handle, Bad_Request, Bad_Packet, Ballots_Spent, Log_Full, Too_Far, Out_Of_Memory: nothing has
-   --  changed.
+   --  Wrong_Handle, Bad_Request, Bad_Packet, Bad_Config, Ballots_Spent, Log_Full, Too_Far, Out_Of_Memory:
+   --  nothing has changed.
 
    function Node_Step
      (Handle  : in out Node;
@@ -328,8 +338,15 @@ package RP is
 
    type Patience is record
       Applied : Interfaces.Unsigned_32 := 0;  --  how many actions were applied when the wait began
-      Tries   : Interfaces.Unsigned_32 := 0;  --  how often it was advised to lead or to ask since then
-      Quiet   : Interfaces.Unsigned_64 := 0;  --  how many quiet turns there were since the last try
+      Tries   : Interfaces.Unsigned_32 := 0;  --  how often it was advised to lead or to ask at the end of a
+                                              --  wait since then
+      Quiet   : Interfaces.Unsigned_64 := 0;  --  how many quiet turns there were since the last advice to
+                                              --  lead or to ask
+      Led     : Interfaces.Unsigned_32 := 0;  --  the last position at which it was advised to lead on since
+                                              --  then, or 0
+      Asked   : Interfaces.Unsigned_32 := 0;  --  one more than how many were applied when it was last advised
+                                              --  to ask while it was idle, or 0
+      Idle    : Interfaces.Unsigned_64 := 0;  --  how many quiet turns it was idle since that
    end record
      with Convention => C;
 
@@ -338,9 +355,10 @@ package RP is
    subtype Advice_Kind is Interfaces.Unsigned_8;
 
    Advice_Nothing : constant Advice_Kind := 0;
-   Advice_Lead    : constant Advice_Kind := 1;  --  lead at Position, the first that is not applied
-   Advice_Ask     : constant Advice_Kind := 2;  --  ask another node for the positions that are missing below
-                                                --  a learned one
+   Advice_Lead    : constant Advice_Kind := 1;  --  lead at Position: the first that is not applied, or where
+                                                --  the node leads on
+   Advice_Ask     : constant Advice_Kind := 2;  --  ask another node, each time the next one, for the positions
+                                                --  that this one misses
 
    type Advice is record
       Kind     : Advice_Kind := Advice_Nothing;
@@ -355,8 +373,11 @@ package RP is
       What   : in out Advice) return Status
      with Import, Convention => C, External_Name => "rp_node_advise";
    --  What the node is to do after Turns more quiet turns (docs/C.md, "Who leads"). A turn is a turn of the
-   --  caller's loop, or a millisecond: node K waits 32 K of them before it leads for what is pending, node 1
-   --  not at all, and from the third try on twice as many as before, up to 64 times as many.
+   --  caller's loop, or a millisecond. A node that led last leads on at once. Any other, node K, waits 32 K
+   --  turns before it leads for what is pending, and from the third try on twice as many as before, up to 64
+   --  times as many; so a decision takes less than 32 turns. A node that has nothing to do asks 32 K turns
+   --  after it was opened, and then 64 times as seldom. In each turn of its loop the caller asks again, with 0
+   --  turns, until the advice is Advice_Nothing. It changes the patience and nothing of the node.
    --  Wrong_Handle: nothing has changed.
 
    function Next_Deck
@@ -541,6 +562,12 @@ package RP is
       Caller : Byte;
       Number : in out Interfaces.Unsigned_32) return Status;
    --  The number of the last call of the task Caller that counted.
+
+   function Node_Occurred
+     (Handle : in out Node;
+      Source : Byte;
+      Number : in out Interfaces.Unsigned_32) return Status;
+   --  The last occurrence of an interrupt's source that counted: the next one that counts is above it.
 
    --  The packet of a task's call, to send: the first Count bytes of Text, none if Count is 0.
 

@@ -95,8 +95,8 @@ uint8_t rp_run_deck(const uint8_t *deck, size_t count, bool traced, uint8_t *ans
  * 2. A node or a task receives packets that nodes and tasks of the same deck handed on, byte for byte, early,
  *    late, again or never: a packet that nobody sent may tell of a vote that nobody cast.
  * 3. A node has one open handle at a time, opened over its own device, and a task is opened once: two handles
- *    of one node vote twice, and a task that counts from 1 again gets the first old reply
- *    (rp_task_open_after: what a task that restarts owes, outside of what is proved).
+ *    of one node vote twice, and a task that counts from 1 again gets the last old
+ *    reply, or none for ever (rp_task_open_after: what a task that restarts owes, outside of what is proved).
  * None of them can be left out (docs/C.md, proved): for each there are callers who break it alone, and two
  * nodes that have applied different actions then.
  *
@@ -221,9 +221,13 @@ typedef struct rp_step {
 /* What a step did not take. */
 enum rp_dropped {
   RP_DROPPED_NOTHING = 0,
-  RP_DROPPED_FULL = 1,   /* a call, an interrupt or a tick: 32 of them are pending at the node */
-  RP_DROPPED_FOREIGN = 2 /* a packet for another node, from a node or for a position that the deck does not
-                          * have, or in a ballot that its sender does not own */
+  RP_DROPPED_FULL = 1,    /* a call, an interrupt or a tick: 32 of them are pending at the node */
+  RP_DROPPED_FOREIGN = 2, /* a packet for another node, from a node or for a position that the deck does not
+                           * have, or in a ballot that its sender does not own */
+  RP_DROPPED_EARLY = 3,   /* a call that cannot count at this node now: a call of its task below it did not
+                           * count here, or its task waits. The node is as if the packet were lost, and there
+                           * is nothing to store and nothing to send; the task sends the call again later */
+  RP_DROPPED_STALE = 4    /* an interrupt: this occurrence of its source or a higher one counted */
 };
 
 /* The least size of the buffer for the answer of a step. */
@@ -249,8 +253,10 @@ enum rp_node_request {
   RP_NODE_PENDING = 20,   /* a question: how many calls, interrupts and ticks wait for a lead: they did not
                            * count yet, and no proposal that the node runs has them as its own action. A call
                            * that waits at a closed entry is none of them. The answer has 4 bytes */
-  RP_NODE_COUNTED = 21    /* a question: the number of the last call of a task that counted at this node, 0
+  RP_NODE_COUNTED = 21,   /* a question: the number of the last call of a task that counted at this node, 0
                            * if none did. The task, 1 to 8 (1). The answer has 4 bytes */
+  RP_NODE_OCCURRED = 22   /* a question: the last occurrence of an interrupt's source that counted at this
+                           * node, 0 if none did. The source, 1 to 8 (1). The answer has 4 bytes */
 };
 
 /* Opens node `number` of the deck over the `held` bytes of its device, which are copied; the deck's
@@ -312,11 +318,14 @@ uint8_t rp_node_receive(rp_node *node, const uint8_t *packet, size_t count, uint
  * It is the caller's, for one node; the caller changes no byte of it. */
 typedef struct rp_patience {
   uint32_t applied; /* how many actions were applied when the wait began */
-  uint32_t tries;   /* how often the node was advised to lead or to ask since then */
-  uint64_t quiet;   /* how many quiet turns there were since the last try */
+  uint32_t tries;   /* how often the node was advised to lead or to ask at the end of a wait since then */
+  uint64_t quiet;   /* how many quiet turns there were since the last advice to lead or to ask */
+  uint32_t led;     /* the last position at which it was advised to lead on since then, or 0 */
+  uint32_t asked;   /* one more than how many were applied when it was last advised to ask while idle, or 0 */
+  uint64_t idle;    /* how many quiet turns it was idle since that */
 } rp_patience;
 
-#define RP_NO_WAIT {0, 0, 0}
+#define RP_NO_WAIT {0, 0, 0, 0, 0, 0}
 
 /* What a node is to do. */
 typedef struct rp_advice {
@@ -326,14 +335,16 @@ typedef struct rp_advice {
 
 enum rp_advice_kind {
   RP_ADVICE_NOTHING = 0,
-  RP_ADVICE_LEAD = 1, /* lead at `position`, the first that is not applied */
-  RP_ADVICE_ASK = 2   /* ask another node for the positions that are missing below a learned one */
+  RP_ADVICE_LEAD = 1, /* lead at `position`: the first that is not applied, or where the node leads on */
+  RP_ADVICE_ASK = 2   /* ask another node, each time the next one, for the positions that this one misses */
 };
 
 /* What the node is to do after `turns` more quiet turns (docs/C.md, "Who leads"). A turn is a turn of the
- * caller's loop, or a millisecond: node k waits 32 k of them before it leads for what is pending, node 1 not
- * at all, and from the third try on twice as many as before, up to 64 times as many; so a decision takes less
- * than 32 turns. It changes the patience and nothing of the node.
+ * caller's loop, or a millisecond. A node that led last leads on at once. Any other, node k, waits 32 k turns
+ * before it leads for what is pending, and from the third try on twice as many as before, up to 64 times as
+ * many; so a decision takes less than 32 turns. A node that has nothing to do asks 32 k turns after it was
+ * opened, and then 64 times as seldom. In each turn of its loop the caller asks again, with 0 turns, until the
+ * advice is RP_ADVICE_NOTHING. It changes the patience and nothing of the node.
  * RP_WRONG_HANDLE: nothing has changed. */
 uint8_t rp_node_advise(rp_node *node, rp_patience *patience, uint64_t turns, rp_advice *advice);
 
@@ -687,6 +698,12 @@ static inline uint8_t rp_node_pending(rp_node *node, uint32_t *number) {
 /* The number of the last call of a task that counted. */
 static inline uint8_t rp_node_counted(rp_node *node, uint8_t task, uint32_t *number) {
   const uint8_t request[2] = {RP_NODE_COUNTED, task};
+  return rp_node_number(node, request, sizeof request, number);
+}
+
+/* The last occurrence of an interrupt's source that counted: the next one that counts is above it. */
+static inline uint8_t rp_node_occurred(rp_node *node, uint8_t source, uint32_t *number) {
+  const uint8_t request[2] = {RP_NODE_OCCURRED, source};
   return rp_node_number(node, request, sizeof request, number);
 }
 

@@ -133,11 +133,12 @@ begin
    Follow (2, 1);
    Show (2);
 
-   --  The task restarts after its two calls: its next call is its third.
+   --  The task restarts after its two calls: its next call is its third. Node 2 led last, so node 1 waits.
    RP.Task_Close (Writer);
    Must (RP.Task_Open_After (1, 2, Writer));
    Fill (-2, 1);
-   Follow (1, 0);
+   Follow (1, 31);
+   Follow (1, 1);
    Show (1);
    Put_Line ("task 9: status" & RP.Status'Image (RP.Task_Open_After (9, 2, Writer)));
 

@@ -122,14 +122,15 @@ static void a_call_waits(void) {
   advise(2, 1000000);
 }
 
-/* The keeper opens the gate through node 1, which leads at once. Node 3 gets none of these packets, and those that
+/* The keeper opens the gate through node 1, which waits, since node 2 led last. Node 3 gets none of these packets, and those that
  * it sends of itself are lost: it misses position 2, and is advised to ask. */
 static void node_3_misses_a_position(void) {
   rp_call_packet packet = {{0}, 0};
   must(rp_task_procedure(&keeper, 1, 1, 1, 0, &packet), "open");
   send_packet(packet.bytes, packet.count);
   deliver();
-  advise(1, 0);
+  advise(1, 31);
+  advise(1, 1);
   lead_at(1, 2);
   deliver_but(3, 0);
   show(1);
@@ -145,12 +146,15 @@ static void node_3_misses_a_position(void) {
   advise(3, 95);
 }
 
-/* Nobody answers node 3. The guest calls through it, so it has something to decide, and leads where it asked. */
+/* Nobody answers node 3. To it the guest's first call still waits, so the second one comes early. It is to note a tick, so it
+ * has something to decide, and leads where it asked; then it takes the guest's call, and leads on at once, since it led last. */
 static void node_3_leads_where_it_asked(void) {
+  rp_room room = {answer, sizeof answer, ends, NODES + 1, {0, 0, 0, 0}};
   rp_call_packet packet = {{0}, 0};
   must(rp_task_entry(&guest, 3, 1, 1, 0, &packet), "pass");
-  send_packet(packet.bytes, packet.count);
-  deliver();
+  must(rp_node_take(&nodes[3], packet.bytes, packet.count, &room), "a call");
+  printf("a call that comes early: dropped %d, packets %zu\n", room.step.dropped, room.step.packets);
+  must(rp_node_tick(&nodes[3], 5, &room), "a tick");
   show(3);
   advise(3, 1);
   lead_at(3, 2);
@@ -161,7 +165,15 @@ static void node_3_leads_where_it_asked(void) {
   lead_at(3, 4);
   deliver();
   show(3);
-  advise(3, 1000000);
+  must(rp_task_again(&guest, 3, &packet), "again");
+  send_packet(packet.bytes, packet.count);
+  deliver();
+  advise(3, 0);
+  lead_at(3, 5);
+  deliver();
+  show(3);
+  advise(3, 95);
+  advise(3, 1);
 }
 
 /* The keeper restarts. It had the replies to its two calls; its first call changes nothing. */
@@ -174,12 +186,12 @@ static void the_keeper_restarts(void) {
   must(rp_task_operation(&keeper, 1, 1, RP_CANCEL_TIMER, 1, 0, &packet), "nothing changes");
   send_packet(packet.bytes, packet.count);
   deliver();
-  lead_at(1, 5);
+  lead_at(1, 6);
   deliver();
   must(rp_task_procedure(&keeper, 1, 1, 1, 0, &packet), "open");
   send_packet(packet.bytes, packet.count);
   deliver();
-  lead_at(1, 6);
+  lead_at(1, 7);
   deliver();
   show(1);
 }

@@ -34,7 +34,7 @@ static void fill(void) {
   lengths = (rp_lengths){7, 7};
   step = (rp_step){7, 7, 7, 7};
   ends[0] = 7;
-  patience = (rp_patience){7, 7, 7};
+  patience = (rp_patience){7, 7, 7, 7, 7, 7};
   advice = (rp_advice){7, 7};
 }
 
@@ -43,7 +43,8 @@ static bool is_same(void) {
   bool same = used == 7 && reason == 7 && found.records == 7 && found.kept == 7 && found.tail == 7 &&
               found.reason == 7 && found.line == 7 && lengths.stored == 7 && lengths.used == 7 &&
               step.stored == 7 && step.used == 7 && step.packets == 7 && step.dropped == 7 && ends[0] == 7 &&
-              patience.applied == 7 && patience.tries == 7 && patience.quiet == 7 && advice.kind == 7 &&
+              patience.applied == 7 && patience.tries == 7 && patience.quiet == 7 && patience.led == 7 &&
+              patience.asked == 7 && patience.idle == 7 && advice.kind == 7 &&
               advice.position == 7;
   for (size_t at = 0; at < sizeof answer; at++) {
     same = same && answer[at] == 7;

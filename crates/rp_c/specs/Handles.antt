@@ -2,8 +2,8 @@
 use Rattle.std.specs.Prelude.{◌≡◌, ◌<◌, ◌≤◌, ◌⊎◌, ℕ, Option, Some, None, Result, Ok, Err, List}
 use Rattle.std.specs.Prelude.{◌++◌, drop, length}
 use Rattle.rp_script.specs.rp_base.specs.declared.fault.Fault.TheVariants as faults
-use Rattle.rp_requests.specs.rp_model.specs.declared.effect.Dropped.{Dropped}
-use Rattle.rp_requests.specs.rp_model.specs.declared.effect.Dropped.TheVariants as drops
+use Rattle.rp_requests.specs.declared.not_taken.NotTaken.{NotTaken}
+use Rattle.rp_requests.specs.declared.not_taken.NotTaken.TheVariants as takings
 use Rattle.rp_handles.specs.DeckNodes.{OpensNoNode}
 use Rattle.rp_handles.specs.Devices.{HasHeader, OpensDevice, OpensNoDevice, header_bytes}
 use Rattle.rp_handles.specs.Handles.{ChangesNothing, Exchange, HandleAnswers, IsNoTask}
@@ -134,10 +134,12 @@ WritesLengths (Some (Err (refusals.LongAnswer needed))) old new =
 -- ---- steps
 
 -- the number of what a step did not take
-abbrev pub dropped_code : Dropped → ℕ
-dropped_code drops.No = 0
-dropped_code drops.Full = 1
-dropped_code drops.Foreign = 2
+abbrev pub dropped_code : NotTaken → ℕ
+dropped_code takings.Nothing = 0
+dropped_code takings.Full = 1
+dropped_code takings.Foreign = 2
+dropped_code takings.Early = 3
+dropped_code takings.Stale = 4
 
 -- What was written of an answer: its lengths, and what the last step of the handle's node gave
 -- besides, as many of the ends of its packets as there is room for.
@@ -149,7 +151,7 @@ WritesLast lengths (Some (actors.Node node)) before after old new =
       stored = lengths.stored;
       used = lengths.used;
       packets = length node.ends;
-      dropped = dropped_code node.dropped;
+      dropped = dropped_code node.not_taken;
     })
 WritesLast lengths (Some (actors.Task task)) before after old new = (after ≡ before) × (new ≡ old)
 WritesLast lengths None before after old new = (after ≡ before) × (new ≡ old)

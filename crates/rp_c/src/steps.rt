@@ -3,15 +3,14 @@
 ghost use Rattle.std.specs.Prelude.{◌≡◌, ◌∷◌, Option, Result};
 ghost use Rattle.rp_handles.specs.Handles.{HandleAnswers, exchange_of};
 ghost use Rattle.rp_handles.specs.declared.actor.ActorKind.TheVariants as kinds;
-ghost use Rattle.rp_requests.specs.rp_model.specs.declared.effect.Dropped.TheVariants as drops;
+ghost use Rattle.rp_requests.specs.declared.not_taken.NotTaken.TheVariants as takings;
 ghost use Rattle.rp_requests.specs.declared.buffer.Lengths.{Lengths as LengthsOf};
 ghost use Rattle.rp_requests.specs.declared.refusal.Refusal.{Refusal as RefusalOf};
 ghost use Rattle.rp_c.specs.Handles.{WritesStep, answer_code, dropped_code};
 
 use crate::answer::code_of_answer;
 use rp_handles::{ActorKind, Handle, LastStep, call, last_step, receive};
-use rp_model::Dropped;
-use rp_requests::{Lengths, Refusal};
+use rp_requests::{Lengths, NotTaken, Refusal};
 use std::alloc::Global;
 
 /// The length of a node's answer, and what its last step gave besides, in the layout that a C caller
@@ -30,13 +29,15 @@ pub struct StepLengths {
 }
 
 /// The number of what a step did not take: 0 is nothing.
-fn dropped_number(dropped: Dropped) -> u8
-    ensures { result ≡ dropped_code dropped }
+fn dropped_number(not_taken: NotTaken) -> u8
+    ensures { result ≡ dropped_code not_taken }
 {
-    match dropped {
-        Dropped::No => 0,
-        Dropped::Full => 1,
-        Dropped::Foreign => 2,
+    match not_taken {
+        NotTaken::Nothing => 0,
+        NotTaken::Full => 1,
+        NotTaken::Foreign => 2,
+        NotTaken::Early => 3,
+        NotTaken::Stale => 4,
     }
 }
 
@@ -120,13 +121,13 @@ fn step_lengths(lengths: Lengths, last: LastStep) -> StepLengths
       stored = lengths.stored;
       used = lengths.used;
       packets = last.packets;
-      dropped = dropped_code last.dropped;
+      dropped = dropped_code last.not_taken;
     } }
 {
     StepLengths {
         stored: lengths.stored,
         used: lengths.used,
         packets: last.packets,
-        dropped: dropped_number(last.dropped),
+        dropped: dropped_number(last.not_taken),
     }
 }

@@ -87,7 +87,7 @@ HandleAnswers kind exchange old new result = ⊥
 abbrev pub ActorShows : Actor → List ℕ → List ℕ → Option LastStep → Type 0
 ActorShows (Node node) before after (Some step) =
     (after ≡ with_front node.ends before)
-    × (step ≡ record { packets = length node.ends; dropped = node.dropped })
+    × (step ≡ record { packets = length node.ends; not_taken = node.not_taken })
 ActorShows (Task task) before after None = after ≡ before
 ActorShows actor before after step = ⊥
 

@@ -3,10 +3,9 @@
 ghost use Rattle.std.specs.Prelude.{◌≡◌, ◌∷◌};
 ghost use Rattle.rp_handles.specs.Handles.{ActorAdvises, ActorAnswers, ActorShows, exchange_of, actor_kind_of, receives_byte};
 
-use rp_model::Dropped;
 use rp_object::Objects;
 use rp_patience::{Advice, Patience};
-use rp_requests::{HandleNode, Lengths, Refusal, Task};
+use rp_requests::{HandleNode, Lengths, NotTaken, Refusal, Task};
 use std::alloc::Global;
 
 /// A node of a deck's protected objects, or a task.
@@ -28,7 +27,8 @@ pub enum ActorKind {
 pub struct LastStep {
     /// How many packets it sent.
     pub packets: usize,
-    pub dropped: Dropped,
+    /// What it did not take.
+    pub not_taken: NotTaken,
 }
 
 impl ActorKind {
@@ -113,7 +113,7 @@ impl Actor {
         match self {
             Actor::Node(node) => Some(LastStep {
                 packets: node.put_ends(ends),
-                dropped: node.dropped(),
+                not_taken: node.not_taken(),
             }),
             Actor::Task(_) => None,
         }

@@ -23,7 +23,7 @@ module _ {S : Type 0} (nodes : ℕ) (Opens : ℕ → List ℕ → NodeState S �
   node_among : (packets : List (List ℕ)) (me : ℕ) (before after : NodeSite S) (given : List (List ℕ)) → NodeMove nodes Opens AnswersAs packets me before after given → AreAmong before.noted after.noted
   node_among packets me before after given (moves.NodeMove.Opened h none) = λ v has. subst (λ (x : NodeSite S). Has v x.noted) (sym h.goes) has
   node_among packets me before after given (moves.NodeMove.Requested a none) =
-      answered_among before after a.new (noted_if (asked_of a.exchange.request)) (is_step_made (asked_of a.exchange.request) a.exchange.result) a.goes
+      answered_among before after a.new (noted_if (asked_of a.exchange.request)) (is_step_made (asked_of a.exchange.request) a.exchange.result a.new.not_taken) a.goes
   node_among packets me before after given (moves.NodeMove.Appended a none) = λ v has. subst (λ (x : NodeSite S). Has v x.noted) (sym a.goes) has
   node_among packets me before after given (moves.NodeMove.Synced a none) = λ v has. subst (λ (x : NodeSite S). Has v x.noted) (sym a.goes) has
   node_among packets me before after given (moves.NodeMove.HandedOn packet h same gives) = λ v has. subst (λ (x : NodeSite S). Has v x.noted) (sym same) has

@@ -1,5 +1,5 @@
 -- Deeds of callers as data: what each leads to is computed, and a test says whether it is a move.
-use Rattle.std.proofs.Common.{◌≡◌, ℕ, zero, suc, ◌≤◌, ℤ, Bool, true, false, ◌&&◌, Option, Some, None, Result, Ok, Err, List, [], ◌∷◌, ◌++◌, length, inl, inr, refl, sym, ap, subst, ◌∙◌, is_some, is_none, is_ok, IsSome, nat_eq, nat_le, nat_lt, slice_get}
+use Rattle.std.proofs.Common.{◌≡◌, ℕ, zero, suc, ◌≤◌, ℤ, Bool, true, false, not, ◌&&◌, Option, Some, None, Result, Ok, Err, List, [], ◌∷◌, ◌++◌, length, inl, inr, refl, sym, ap, subst, ◌∙◌, is_some, is_none, is_ok, IsSome, nat_eq, nat_le, nat_lt, slice_get}
 use Rattle.std.specs.Prelude.{unwrap_or}
 use Rattle.std.specs.List.{AllByRecursion}
 use Rattle.std.proofs.lemmas.Bool.{and_parts, eqb-true}
@@ -25,13 +25,14 @@ use Rattle.rp_requests.specs.Texts.{step_text, FitsStep, task_request_text, Fits
 use Rattle.rp_requests.specs.TaskRequests.{TaskAsked, MakeCall, TakePacket, task_asked_of}
 use Rattle.rp_requests.specs.Tasks.{call_packet, reply_taken}
 use Rattle.rp_requests.specs.rp_tasks.specs.Calls.{Calls, no_calls, refusal_of, with_call, with_reply}
-use Rattle.rp_requests.specs.Nodes.{NodeState, after_step, step_bytes}
+use Rattle.rp_requests.specs.Nodes.{NodeState, step_bytes}
+use Rattle.rp_requests.specs.Timing.{comes_early}
 use Rattle.rp_requests.specs.Requests.{Step, asked_of}
 use Rattle.rp_installations.specs.Moves.{with_step}
 use Rattle.rp_installations.specs.Sites.{StepPackets, NodeSite, TaskSite, closed_over, unopened_task}
 use Rattle.rp_agreement.proofs.PartPlaces.{put_there}
 use Rattle.rp_installations.specs.Breaches.{Callers, MoveOr, MovesOr}
-use Rattle.rp_installations.proofs.Moving.{are_bytes, CameFrom, fresh, with_node, handed, appended_site, synced_site, opens, steps, appends, syncs, hands, closes, with_task, opens_task, calls, takes}
+use Rattle.rp_installations.proofs.Moving.{are_bytes, CameFrom, fresh, with_node, stepped, handed, appended_site, synced_site, opens, steps, appends, syncs, hands, closes, with_task, opens_task, calls, takes}
 
 -- ---- tests
 
@@ -162,6 +163,14 @@ came_is i (inputs.NodeInput.Tick now) k e = tt
 came_is i (inputs.NodeInput.Report first) k e = tt
 came_is i (inputs.NodeInput.Ask to) k e = tt
 
+-- it is no call that comes early
+abbrev is_timely : Callers → ℕ → NodeInput → Bool
+is_timely i me input = not (comes_early tally_next tally_answers (node_at i me).replica (Ok input))
+
+not_true : (b : Bool) → not b ≡ true → b ≡ false
+not_true true e = absurd (cc)
+not_true false e = refl
+
 -- ---- deeds
 
 -- A node is opened over an empty device; is asked for a step, where a packet is the one that was handed on at this place; has all
@@ -182,7 +191,7 @@ module _ (Breaks : Callers → Callers → Type 0) (B : Type 0) (breaks_to : B �
     (breach : (b : B) (i : Callers) → FitsBreach b → may_break b i ≡ true → MoveOr Breaks i (breaks_to b i)) where
   abbrev pub does : Deed B → Callers → Callers
   does (Open me) i = with_node i me (record (closed_over [] (site_at i me).noted) { node = Some (fresh me) })
-  does (Take me input place) i = with_node i me (with_step (site_at i me) (after_step (node_at i me) (turn_of (effect_at i me input))) (noted_by input))
+  does (Take me input place) i = with_node i me (with_step (site_at i me) (stepped (node_at i me) input (turn_of (effect_at i me input))) (noted_by input))
   does (Keep me) i = with_node (with_node i me (appended_site (site_at i me))) me (synced_site (appended_site (site_at i me)))
   does (Hand me place messages message) i = handed i me (site_at i me) (text_of message)
   does (Close me) i = with_node i me (closed_over ((site_at i me).synced ++ []) (site_at i me).noted)
@@ -195,7 +204,7 @@ module _ (Breaks : Callers → Callers → Type 0) (B : Type 0) (breaks_to : B �
   -- whether it is a move
   abbrev pub may : Deed B → Callers → Bool
   may (Open me) i = is_some (part_at i.nodes me) && is_empty (site_at i me)
-  may (Take me input place) i = is_open i me && (are_bytes (step_text input) && (came_at i input place && is_ok (effect_at i me input)))
+  may (Take me input place) i = is_open i me && (are_bytes (step_text input) && (came_at i input place && (is_ok (effect_at i me input) && is_timely i me input)))
   may (Keep me) i = is_open i me && is_open (with_node i me (appended_site (site_at i me))) me
   may (Hand me place messages message) i =
       is_open i me && (is_some (slice_get (site_at i me).step_packets place) && (nat_le (step_at (site_at i me) place).end (length (site_at i me).synced) && same_bytes (step_at (site_at i me) place).texts (texts_of messages)))
@@ -261,11 +270,12 @@ module _ (Breaks : Callers → Callers → Type 0) (B : Type 0) (breaks_to : B �
         let both = and_parts (is_some (part_at i.nodes me)) (is_empty (site_at i me)) e in
         one i _ (opens Breaks i me (site_at i me).noted (some_is (part_at i.nodes me) (closed_over [] []) both.0 ∙ ap (λ (s : NodeSite (List ℤ)). Some s) (empty_is (site_at i me) both.1)))
     deed_leads (Take me input place) i fits e =
-        let a = and_parts (is_open i me) (are_bytes (step_text input) && (came_at i input place && is_ok (effect_at i me input))) e in
-        let b = and_parts (are_bytes (step_text input)) (came_at i input place && is_ok (effect_at i me input)) a.1 in
-        let c = and_parts (came_at i input place) (is_ok (effect_at i me input)) b.1 in
+        let a = and_parts (is_open i me) (are_bytes (step_text input) && (came_at i input place && (is_ok (effect_at i me input) && is_timely i me input))) e in
+        let b = and_parts (are_bytes (step_text input)) (came_at i input place && (is_ok (effect_at i me input) && is_timely i me input)) a.1 in
+        let c = and_parts (came_at i input place) (is_ok (effect_at i me input) && is_timely i me input) b.1 in
+        let d = and_parts (is_ok (effect_at i me input)) (is_timely i me input) c.1 in
         let here = open_parts i me a.0 in
-        one i _ (steps Breaks buffer room reads i me (site_at i me) (node_at i me) input (turn_of (effect_at i me input)) here.0 here.1 fits b.0 (came_is i input place c.0) (turn_is (effect_at i me input) c.1))
+        one i _ (steps Breaks buffer room reads i me (site_at i me) (node_at i me) input (turn_of (effect_at i me input)) here.0 here.1 fits b.0 (came_is i input place c.0) (turn_is (effect_at i me input) d.0) (not_true (comes_early tally_next tally_answers (node_at i me).replica (Ok input)) d.1))
     deed_leads (Keep me) i fits e =
         let both = and_parts (is_open i me) (is_open (with_node i me (appended_site (site_at i me))) me) e in
         let here = open_parts i me both.0 in

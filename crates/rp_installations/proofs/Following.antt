@@ -83,13 +83,13 @@ module _ {S : Type 0} (s : Setting S) (ranged : (events : List Event) (w : World
   }
 
   asked_on : (me : ℕ) (part : NodePart) (here : part_at w.nodes me ≡ Some part) (handed : List (List ℕ)) (site after : NodeSite S) (given : List (List ℕ)) → AllTexts handed w.sent → (o : IsOpenOver s w.sent me part site)
-      → (a : AsksSite s.config.nodes (OpensFrom s.next s.answers image s.config s.begin) (AnswersBy s.next s.answers image) handed site after) → given ≡ [] → Outcome s.next s.answers (asked_of a.exchange.request) a.old a.new (is_step_made (asked_of a.exchange.request) a.exchange.result) → NodeMoved s events w me after given
-  asked_on me part here handed site after given all o a none (Stepped input turn asked effect goes is) =
+      → (a : AsksSite s.config.nodes (OpensFrom s.next s.answers image s.config s.begin) (AnswersBy s.next s.answers image) handed site after) → given ≡ [] → Outcome s.next s.answers (asked_of a.exchange.request) a.old a.new (is_step_made (asked_of a.exchange.request) a.exchange.result a.new.not_taken) → NodeMoved s events w me after given
+  asked_on me part here handed site after given all o a none (Stepped input stale turn asked timely effect goes is) =
       let same : o.node ≡ a.old = ap (λ (x : Option (NodeState S)). unwrap_or x a.old) (sym o.kept ∙ a.opened) in
       let may = may_come handed w.sent a.exchange.request all a.bytes a.arrived input asked in
       let on_part = effect_on_part s me a.old input turn (subst (IsSetUp s me) same o.set_up) effect in
-      let site_is : after ≡ with_step site (after_step a.old turn) (noted_by input) = a.goes ∙ ap (site_answered site a.new (noted_if (asked_of a.exchange.request))) is ∙ ap (with_step site a.new) (ap noted_if asked) ∙ ap (λ (n : NodeState S). with_step site n (noted_by input)) goes in
-      waits me part here after given (subst (IsNodeOver s w.sent me part) (sym site_is) (IsOpen (step_over s w.sent me part site o a.old input turn a.opened may on_part))) none
+      let site_is : after ≡ with_step site (after_step a.old stale turn) (noted_by input) = a.goes ∙ ap (site_answered site a.new (noted_if (asked_of a.exchange.request))) is ∙ ap (with_step site a.new) (ap noted_if asked) ∙ ap (λ (n : NodeState S). with_step site n (noted_by input)) goes in
+      waits me part here after given (subst (IsNodeOver s w.sent me part) (sym site_is) (IsOpen (step_over s w.sent me part site o a.old input stale turn a.opened may on_part))) none
   asked_on me part here handed site after given all o a none (Unchanged goes is) =
       let site_is : after ≡ record site { node = Some a.new } = a.goes ∙ ap (site_answered site a.new (noted_if (asked_of a.exchange.request))) is in
       waits me part here after given (subst (IsNodeOver s w.sent me part) (sym site_is) (IsOpen (same_over s w.sent me part site o a.old a.new a.opened goes))) none

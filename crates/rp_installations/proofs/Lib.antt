@@ -3,6 +3,7 @@ pub mod Requested
 pub mod Starts
 pub mod NodeAnswers
 pub mod Opened
+pub mod PendingItems
 pub mod NodeSites
 pub mod TaskSites
 pub mod Asking

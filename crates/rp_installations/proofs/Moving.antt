@@ -25,7 +25,10 @@ use Rattle.rp_requests.specs.Buffers.{IsPutInFront}
 use Rattle.rp_requests.specs.TaskRequests.{TaskAsked, MakeCall, TakePacket, task_asked_of}
 use Rattle.rp_requests.specs.Tasks.{TaskAnswers, task_bytes, call_packet, reply_taken, once_taken, taken_text}
 use Rattle.rp_requests.specs.rp_tasks.specs.Calls.{Calls, no_calls, refusal_of, with_call, with_reply}
-use Rattle.rp_requests.specs.Nodes.{NodeState, RequestAnswers, after_step, stored_by, step_bytes}
+use Rattle.rp_requests.specs.Nodes.{NodeState, RequestAnswers, GivenAnswers, after_step, is_at_end, stored_by, step_bytes}
+use Rattle.rp_requests.specs.Timing.{comes_early, comes_late}
+use Rattle.rp_requests.specs.declared.not_taken.NotTaken.TheVariants.{Nothing}
+use Rattle.rp_installations.proofs.NodeAnswers.{none_left_out}
 use Rattle.rp_requests.specs.Requests.{Asked, Step, asked_of}
 use Rattle.rp_requests.specs.declared.buffer.Lengths.{Lengths}
 use Rattle.rp_requests.specs.declared.refusal.Refusal.{Refusal}
@@ -94,7 +97,8 @@ fresh me = record {
   stored = [];
   packets = [];
   ends = [];
-  dropped = No;
+  not_taken = Nothing;
+  had_early = false;
 }
 
 fresh_opens : (me : ℕ) → OpensFrom tally_next tally_answers tally_image three_node_config one_sum me [] (fresh me) 0 0
@@ -122,7 +126,7 @@ fresh_opens me = record {
       counted = refl;
     };
     kept_is = refl;
-    no_step = (refl, refl, refl, refl);
+    no_step = (refl, refl, refl, refl, refl);
   };
 }
 
@@ -159,6 +163,10 @@ synced_site site = record {
   noted = site.noted;
 }
 
+-- a node after it made a step
+abbrev pub stepped : NodeState (List ℤ) → NodeInput → Turn → NodeState (List ℤ)
+stepped node input turn = after_step node (comes_late tally_next tally_answers node.replica (Ok input)) turn
+
 -- ---- moves
 
 module _ (Breaks : Callers → Callers → Type 0) where
@@ -169,26 +177,27 @@ module _ (Breaks : Callers → Callers → Type 0) where
 
   module _ (buffer : List ℕ) (room : step_bytes ≤ length buffer) (reads : (input : NodeInput) → FitsStep input → asked_of (step_text input) ≡ Some (Step (Ok input))) where
     pub steps : (i : Callers) (me : ℕ) (site : NodeSite (List ℤ)) (node : NodeState (List ℤ)) (input : NodeInput) (turn : Turn) → part_at i.nodes me ≡ Some site → site.node ≡ Some node → FitsStep input → are_bytes (step_text input) ≡ true
-        → CameFrom i.handed_on input → effect_if_given tally_next tally_answers node.replica (Ok input) ≡ Ok turn → MoveOr Breaks i (with_node i me (with_step site (after_step node turn) (noted_by input)))
-    steps i me site node input turn here opened fits bytes has effect =
+        → CameFrom i.handed_on input → effect_if_given tally_next tally_answers node.replica (Ok input) ≡ Ok turn → comes_early tally_next tally_answers node.replica (Ok input) ≡ false
+        → MoveOr Breaks i (with_node i me (with_step site (stepped node input turn) (noted_by input)))
+    steps i me site node input turn here opened fits bytes has effect timely =
         let front = stored_by turn.written ++ texts_of turn.sent in
         let lengths : Lengths = record { stored = length (stored_by turn.written); used = length front } in
         let result : Result Lengths Refusal = Ok lengths in
         let exchange : AnsweredRequest = record { request = step_text input; before = buffer; after = front ++ drop (length front) buffer; result = result } in
         let read = reads input fits in
-        let answer : RequestAnswers tally_next tally_answers tally_image (Some (Step (Ok input))) node (after_step node turn) buffer exchange.after result =
-        record { room = room; turn = turn; takes = effect; goes = refl; put = record { front = refl; stored_is = refl; used_is = refl } } in
-        let asks : AsksSite 3 (OpensFrom tally_next tally_answers tally_image three_node_config one_sum) (AnswersBy tally_next tally_answers tally_image) i.handed_on site (with_step site (after_step node turn) (noted_by input)) = record {
+        let answer : RequestAnswers tally_next tally_answers tally_image (Some (Step (Ok input))) node (stepped node input turn) buffer exchange.after result =
+        subst (λ (early : Bool). GivenAnswers early (effect_if_given tally_next tally_answers node.replica (Ok input)) (is_at_end node.replica (Ok input)) (comes_late tally_next tally_answers node.replica (Ok input)) node (stepped node input turn) buffer exchange.after result) (sym timely) (record { room = room; turn = turn; takes = effect; goes = refl; put = record { front = refl; stored_is = refl; used_is = refl } }) in
+        let asks : AsksSite 3 (OpensFrom tally_next tally_answers tally_image three_node_config one_sum) (AnswersBy tally_next tally_answers tally_image) i.handed_on site (with_step site (stepped node input turn) (noted_by input)) = record {
           exchange = exchange;
           old = node;
-          new = after_step node turn;
+          new = stepped node input turn;
           opened = opened;
           bytes = bytes_are (step_text input) bytes;
           arrived = came i.handed_on input has;
-          answers = subst (λ (a : Option Asked). RequestAnswers tally_next tally_answers tally_image a node (after_step node turn) buffer exchange.after result) (sym read) answer;
-          goes = sym (ap (λ (a : Option Asked). site_answered site (after_step node turn) (noted_if a) (is_step_made a result)) read);
+          answers = subst (λ (a : Option Asked). RequestAnswers tally_next tally_answers tally_image a node (stepped node input turn) buffer exchange.after result) (sym read) answer;
+          goes = sym (ap (λ (a : Option Asked). site_answered site (stepped node input turn) (noted_if a) (is_step_made a result (stepped node input turn).not_taken)) read ∙ ap (site_answered site (stepped node input turn) (noted_by input)) (none_left_out (comes_late tally_next tally_answers node.replica (Ok input)) turn.dropped));
         } in
-        Keeps (moves.Move.OfNode me site (with_step site (after_step node turn) (noted_by input)) [] here (moves.NodeMove.Requested asks refl) refl)
+        Keeps (moves.Move.OfNode me site (with_step site (stepped node input turn) (noted_by input)) [] here (moves.NodeMove.Requested asks refl) refl)
 
   pub appends : (i : Callers) (me : ℕ) (site : NodeSite (List ℤ)) → part_at i.nodes me ≡ Some site → IsSome site.node → MoveOr Breaks i (with_node i me (appended_site site))
   appends i me site here opened = Keeps (moves.Move.OfNode me site (appended_site site) [] here (moves.NodeMove.Appended (record { opened = opened; count = length site.given; goes = refl }) refl) refl)

@@ -1,5 +1,5 @@
 -- Each move of a node, over its part in a world.
-use Rattle.std.proofs.Common.{◌≡◌, ℕ, ◌+◌, ◌≤◌, Option, Some, None, Ok, List, [], ◌∷◌, ◌++◌, length, take, drop, inl, inr, refl, sym, ap, subst, ◌∙◌, append_assoc, length-append, arith}
+use Rattle.std.proofs.Common.{Bool, ◌≡◌, ℕ, ◌+◌, ◌≤◌, Option, Some, None, Ok, List, [], ◌∷◌, ◌++◌, length, take, drop, inl, inr, refl, sym, ap, subst, ◌∙◌, append_assoc, length-append, arith}
 use Rattle.std.specs.Prelude.{IsSome, unwrap_or}
 use Rattle.std.proofs.lemmas.List.{append-nil, append_cancel_left}
 use Rattle.rp_base.specs.Sets.{Has}
@@ -118,9 +118,9 @@ module _ {S : Type 0} (s : Setting S) (sent : List Message) (me : ℕ) (part : N
 
   -- ---- a step
 
-  pub step_over : (old : NodeState S) (input : NodeInput) (turn : Turn) (seen : before.node ≡ Some old) → MayCome sent input → node_effect s me (part_of old.replica) input ≡ Ok (turn_done (part_of old.replica) turn)
-      → IsOpenOver s sent me part (with_step before (after_step old turn) (noted_by input))
-  step_over old input turn seen may effect =
+  pub step_over : (old : NodeState S) (input : NodeInput) (stale : Bool) (turn : Turn) (seen : before.node ≡ Some old) → MayCome sent input → node_effect s me (part_of old.replica) input ≡ Ok (turn_done (part_of old.replica) turn)
+      → IsOpenOver s sent me part (with_step before (after_step old stale turn) (noted_by input))
+  step_over old input stale turn seen may effect =
       let same : o.node ≡ old = ap (λ (x : Option (NodeState S)). unwrap_or x old) (sym o.kept ∙ seen) in
       let step : PendingStep = record { input = input; turn = turn } in
       let stored = bytes_written turn.written in
@@ -129,9 +129,9 @@ module _ {S : Type 0} (s : Setting S) (sent : List Message) (me : ℕ) (part : N
       length-append (all_given before) stored ∙ ap (λ (n : ℕ). n + length stored) (ap (λ (l : List ℕ). length l) o.given ∙ length-append o.bytes (bytes_of o.steps)) in
       let item : ℕ → StepPackets = λ n. record { texts = texts_of turn.sent; end = n } in
       record {
-        node = after_step old turn;
+        node = after_step old stale turn;
         kept = refl;
-        set_up = subst (λ (n : NodeState S). IsSetUp s me (after_step n turn)) same (record { me_is = o.set_up.me_is; config = o.set_up.config; begin = o.set_up.begin });
+        set_up = subst (λ (n : NodeState S). IsSetUp s me (after_step n stale turn)) same (record { me_is = o.set_up.me_is; config = o.set_up.config; begin = o.set_up.begin });
         untorn = o.untorn;
         bytes = o.bytes;
         records = o.records;
@@ -155,12 +155,16 @@ module _ {S : Type 0} (s : Setting S) (sent : List Message) (me : ℕ) (part : N
         ];
       }
 
-  -- nothing changed but that the handle was asked
-  pub same_over : (old new : NodeState S) → before.node ≡ Some old → new ≡ old → IsOpenOver s sent me part (record before { node = Some new })
+  -- nothing changed but what the handle's node was asked, or that it left a call out
+  pub same_over : (old new : NodeState S) → before.node ≡ Some old → new.replica ≡ old.replica → IsOpenOver s sent me part (record before { node = Some new })
   same_over old new seen same = record {
-    node = o.node;
-    kept = ap (λ (n : NodeState S). Some n) same ∙ sym seen ∙ o.kept;
-    set_up = o.set_up;
+    node = new;
+    kept = refl;
+    set_up = record {
+      me_is = ap (λ (r : ReplicaState S). r.me) (is old new seen same) ∙ o.set_up.me_is;
+      config = ap (λ (r : ReplicaState S). r.config) (is old new seen same) ∙ o.set_up.config;
+      begin = subst (λ (r : ReplicaState S). AnswerAlike s.next s.answers r.begin s.begin) (sym (is old new seen same)) o.set_up.begin;
+    };
     untorn = o.untorn;
     bytes = o.bytes;
     records = o.records;
@@ -168,13 +172,16 @@ module _ {S : Type 0} (s : Setting S) (sent : List Message) (me : ℕ) (part : N
     synced = o.synced;
     steps = o.steps;
     made = o.made;
-    reached = o.reached;
+    reached = ap (λ (r : ReplicaState S). part_of r) (is old new seen same) ∙ o.reached;
     given = o.given;
     settled = o.settled;
     packets = o.packets;
     are_sent = o.are_sent;
     noted = o.noted;
   }
+    where
+      is : (old new : NodeState S) → before.node ≡ Some old → new.replica ≡ old.replica → new.replica ≡ o.node.replica
+      is old new seen same = same ∙ ap (λ (x : Option (NodeState S)). (unwrap_or x old).replica) (sym seen ∙ o.kept)
 
 -- ---- the first pending steps are made
 

@@ -38,16 +38,16 @@ module _ {S : Type 0} (next : S → Action → S) (answers : S → Action → Li
   asked_start a old new noted false after goes alike = one_open after new (ap (λ (s : NodeSite S). s.node) goes) alike
 
   same_start : (asked : Option Asked) (old new : NodeState S) (made : Bool) → Outcome next answers asked old new made → Alike old → Alike new
-  same_start asked old new made (Stepped input turn is effect goes made_is) alike = subst Alike (sym goes) alike
-  same_start asked old new made (Unchanged goes made_is) alike = subst Alike (sym goes) alike
+  same_start asked old new made (Stepped input stale turn is timely effect goes made_is) alike = subst Alike (sym goes) alike
+  same_start asked old new made (Unchanged goes made_is) alike = subst (λ (r : ReplicaState S). BehaveAlike next answers image r.begin begin) (sym goes) alike
 
   node_keeps : (packets : List (List ℕ)) (me : ℕ) (before after : NodeSite S) (given : List (List ℕ)) → SiteAlike before → NodeMove config.nodes (OpensFrom next answers image config begin) (AnswersBy next answers image) packets me before after given → SiteAlike after
   node_keeps packets me before after given alike (moves.NodeMove.Opened h none) =
       one_open after h.node (ap (λ (s : NodeSite S). s.node) h.goes)
       (subst (λ (b : S). BehaveAlike next answers image b begin) (sym (ap (λ (r : ReplicaState S). r.begin) h.opens.opens.opens.starts)) h.opens.alike)
   node_keeps packets me before after given alike (moves.NodeMove.Requested a none) =
-      asked_start before a.old a.new (noted_if (asked_of a.exchange.request)) (is_step_made (asked_of a.exchange.request) a.exchange.result) after a.goes
-      (same_start (asked_of a.exchange.request) a.old a.new (is_step_made (asked_of a.exchange.request) a.exchange.result)
+      asked_start before a.old a.new (noted_if (asked_of a.exchange.request)) (is_step_made (asked_of a.exchange.request) a.exchange.result a.new.not_taken) after a.goes
+      (same_start (asked_of a.exchange.request) a.old a.new (is_step_made (asked_of a.exchange.request) a.exchange.result a.new.not_taken)
       (outcome next answers image (asked_of a.exchange.request) a.old a.new a.exchange.before a.exchange.after a.exchange.result a.answers) (alike a.old a.opened))
   node_keeps packets me before after given alike (moves.NodeMove.Appended a none) = λ node some. alike node (ap (λ (s : NodeSite S). s.node) (sym a.goes) ∙ some)
   node_keeps packets me before after given alike (moves.NodeMove.Synced a none) = λ node some. alike node (ap (λ (s : NodeSite S). s.node) (sym a.goes) ∙ some)

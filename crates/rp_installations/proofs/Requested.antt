@@ -18,7 +18,7 @@ use Rattle.rp_model.specs.rp_codec.proofs.Decoded.{whole_again}
 use Rattle.rp_model.specs.Effect as nodes
 use Rattle.rp_model.specs.Effect.{NodeInput}
 use Rattle.rp_world.specs.rp_rules.specs.Inputs.{packet_given}
-use Rattle.rp_requests.specs.Requests.{Asked, Step, Applied, Image, LastAnswer, Left, Pending, Counted, given, lead_asked, interrupt_asked, tick_asked, report_asked, range_if, range_asked, counted_asked, question_asked, asked_of_kind, asked_of, ask_asked}
+use Rattle.rp_requests.specs.Requests.{Asked, Step, Applied, Image, LastAnswer, Left, Pending, Counted, Occurred, given, lead_asked, interrupt_asked, tick_asked, report_asked, range_if, range_asked, counted_asked, occurred_asked, question_asked, asked_of_kind, asked_of, ask_asked}
 use Rattle.rp_requests.specs.TaskRequests.{TaskAsked, MakeCall, SendAgain, TakePacket, operation_numbered, is_party, arg_at, call_with, call_if, call_asked, again_asked, task_asked_by, task_asked_of}
 use Rattle.rp_installations.specs.Pending.{MayCome}
 use Rattle.rp_installations.specs.Moves.{AreBytes, WasHandedOn, node_receives_byte, task_receives_byte}
@@ -138,6 +138,11 @@ module _ (sent : List Message) where
   counted_comes (task ∷ []) = if_comes (nat_le 1 task && nat_le task 8) (Some (Counted task)) None (λ _ input e. absurd (cc)) (λ _. none_comes)
   counted_comes (a ∷ b ∷ rest) = none_comes
 
+  occurred_comes : (operands : List ℕ) → ComesIf sent (occurred_asked operands)
+  occurred_comes [] = none_comes
+  occurred_comes (source ∷ []) = if_comes (nat_le 1 source && nat_le source 8) (Some (Occurred source)) None (λ _ input e. absurd (cc)) (λ _. none_comes)
+  occurred_comes (a ∷ b ∷ rest) = none_comes
+
   question_comes : (kind : ℕ) (operands : List ℕ) → ComesIf sent (question_asked kind operands)
   question_comes kind [] =
       if_comes (kind == 16) (Some Applied) _ (λ _. asks_none Applied (λ input e. cc))
@@ -176,7 +181,8 @@ may_come handed sent (kind ∷ operands) all bytes arrived =
     (λ _. if_comes sent (kind == 6) _ _ (λ _. range_comes sent operands rest)
     (λ _. if_comes sent (kind == 7) _ _ (λ _. ask_comes sent operands rest)
     (λ _. if_comes sent (kind == 21) _ _ (λ _. counted_comes sent operands)
-    (λ _. question_comes sent kind operands))))))))
+    (λ _. if_comes sent (kind == 22) _ _ (λ _. occurred_comes sent operands)
+    (λ _. question_comes sent kind operands)))))))))
 
 -- ---- tasks
 

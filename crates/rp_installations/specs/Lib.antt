@@ -3,6 +3,7 @@ pub mod Sites
 pub mod Moves
 pub mod Behind
 pub mod Outcomes
+pub mod Countable
 pub mod Pending
 pub mod Making
 pub mod Breaches

@@ -1,7 +1,7 @@
 -- What callers do with the handles of a configuration's nodes and of its tasks, one move after
 -- another, and the rules that they keep.
 use Rattle.std.specs.Prelude.{◌≡◌, ℕ, ◌<◌, ◌≤◌, ◌^◌, Bool, true, false, nat_lt, Option, Some}
-use Rattle.std.specs.Prelude.{None, IsSome}
+use Rattle.std.specs.Prelude.{None, IsSome, not}
 use Rattle.std.specs.Prelude.{Result, Ok, Err, List, [], ◌∷◌, ◌++◌, length, take, drop}
 use Rattle.std.specs.Prelude.{if◌then◌else◌}
 use Rattle.std.specs.List.{AllByRecursion}
@@ -23,6 +23,8 @@ use Rattle.rp_requests.specs.Tasks.{TaskAnswers}
 use Rattle.rp_requests.specs.declared.buffer.Lengths.{Lengths}
 use Rattle.rp_requests.specs.declared.refusal.Refusal.{Refusal}
 use Rattle.rp_requests.specs.declared.refusal.Refusal.TheVariants.{LongAnswer}
+use Rattle.rp_requests.specs.declared.not_taken.NotTaken.{NotTaken}
+use Rattle.rp_requests.specs.declared.not_taken.NotTaken.TheVariants.{Early}
 use Rattle.rp_requests.specs.rp_tasks.specs.Calls.{Calls, no_calls}
 use Rattle.rp_installations.specs.Starts.{BehaveAlike}
 use Rattle.rp_installations.specs.Sites.{StepPackets, NodeSite, TaskSite, Installation, closed_over}
@@ -63,11 +65,16 @@ WasHandedOn packets receives request =
 
 -- ---- nodes
 
--- a step was made: it was asked for, and was not refused
-abbrev pub is_step_made : Option Asked → Result Lengths Refusal → Bool
-is_step_made (Some (Step input)) (Ok lengths) = true
-is_step_made (Some (Step input)) (Err (LongAnswer needed)) = true
-is_step_made asked result = false
+-- a step was made: it was asked for, was not refused, and did not leave out a call that came early,
+-- which is as if the call's packet were lost
+abbrev pub is_left_out : NotTaken → Bool
+is_left_out Early = true
+is_left_out missed = false
+
+abbrev pub is_step_made : Option Asked → Result Lengths Refusal → NotTaken → Bool
+is_step_made (Some (Step input)) (Ok lengths) missed = not (is_left_out missed)
+is_step_made (Some (Step input)) (Err (LongAnswer needed)) missed = true
+is_step_made asked result missed = false
 
 -- the interrupt or the tick that a node is asked to note, if one is asked for
 abbrev pub noted_if : Option Asked → List Action
@@ -215,7 +222,7 @@ module _ {S : Type 0} (nodes : ℕ) (Opens : ℕ → List ℕ → NodeState S �
     pub answers : AnswersAs exchange old new
     pub goes : after
         ≡ site_answered before new (noted_if (asked_of exchange.request))
-        (is_step_made (asked_of exchange.request) exchange.result)
+        (is_step_made (asked_of exchange.request) exchange.result new.not_taken)
 
   -- What a node's caller does, and the packets that it hands on by that.
   pub data NodeMove (packets : List (List ℕ)) (me : ℕ) (before after : NodeSite S)

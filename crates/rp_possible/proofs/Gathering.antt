@@ -85,7 +85,7 @@ module _ {S : Type 0} (s : Setting S) (quorum : List ℕ) (t first x : ℕ) (fro
         let node = is_node s quorum x records round begun x begun.bare.leader in
         let bounded = asked.bound in
         delivered s quorum t first x from gathering.w gathering.now (knows done) (knows done) y packet.0 (says x (Prepare p b) y)
-        (writes (Promised p b) (known x y (knows done)) (answer ∷ [])) gathering.on next.has packet.1 packet.2 refl
+        (writes (Promised p b) (known x y (knows done)) (answer ∷ [])) gathering.on next.has packet.1 packet.2 refl tt
         (record {
           result = promises s y x (gathering.now y) (known x y (knows done)) (within s quorum x records round begun x begun.bare.leader) p b begun.position
               (is_owned (suc round) x node) (omega (arith, bounded))
@@ -106,7 +106,7 @@ module _ {S : Type 0} (s : Setting S) (quorum : List ℕ) (t first x : ℕ) (fro
         → IsMoved s quorum t first x from promises_now.after packets (with_written wrote x None) after
     taken after packets result =
         delivered s quorum t first x from promises_now.after wrote (knows done) after x (suc (length gathering.w.sent)) answer (sends after packets) promises_now.on begun.bare.leader
-        answer_new answer_there refl
+        answer_new answer_there refl tt
         (record {
           result = ap (λ (r : Running). running_effect s x (wrote x) r (nodes.Receive answer)) (known_self x (knows done)) ∙ result;
           becomes = sym (known_self x after);

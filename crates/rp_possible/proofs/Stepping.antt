@@ -13,7 +13,7 @@ use Rattle.rp_model.specs.Effect.{Setting, NodeInput, running_effect, turn_done,
 use Rattle.rp_model.specs.Events.{Event, Makes, Deliver, Lead, IsRightEvent}
 use Rattle.rp_model.specs.Parts.{NodePart, Running, Turn, fresh_running, with_record}
 use Rattle.rp_model.specs.World.{World, Transition, part_at, event_effect, node_done, node_done_if, chosen_effect, delivers, commanded, reaches, reaches_number}
-use Rattle.rp_possible.specs.Rounds.{GoesOnBy, IsTheirs, IsOneOf, AreRunning}
+use Rattle.rp_possible.specs.Rounds.{GoesOnBy, IsTheirs, IsOneOf, ComesInTime, AreRunning}
 use Rattle.rp_possible.proofs.Parts.{put_there, put_beside}
 
 -- the node that wrote these records runs and knows this
@@ -135,12 +135,12 @@ module _ {S : Type 0} (s : Setting S) (quorum : List ℕ) (t first x : ℕ) (fro
 
   -- a packet is delivered
   pub delivered : (w : World) (now : ℕ → List Rec) (before after : Running) (y number : ℕ) (m : Message) (turn : Turn) → IsOn w now before → Has y quorum
-      → first < number → part_at w.sent number ≡ Some m → m.to ≡ Node y → Turns s x y now before after (nodes.Receive m) turn
+      → first < number → part_at w.sent number ≡ Some m → m.to ≡ Node y → ComesInTime w m.to m.body → Turns s x y now before after (nodes.Receive m) turn
       → IsMoved w turn.sent (with_written now y turn.written) after
-  delivered w now before after y number m turn on has new sent to turns =
+  delivered w now before after y number m turn on has new sent to in_time turns =
       moves w now before after y (nodes.Receive m) turn on has turns (Makes (Deliver number))
       (gets s w y (now y) (known x y before) turn (on.are.each y has) number m sent to turns.result) tt
-      (new, (m, sent, subst (IsOneOf quorum t) (sym to) has))
+      (new, (m, sent, subst (IsOneOf quorum t) (sym to) has, in_time))
 
   -- the leader leads at a position
   pub led : (w : World) (now : ℕ → List Rec) (before after : Running) (p : ℕ) (turn : Turn) → IsOn w now before → Has x quorum → IsNode x → IsPosition p

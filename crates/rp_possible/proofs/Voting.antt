@@ -77,7 +77,7 @@ module _ {S : Type 0} (s : Setting S) (quorum : List ℕ) (t first x : ℕ) (fro
         let packet = voting.packets y next.has in
         let node = is_node s quorum x records round begun x begun.bare.leader in
         delivered s quorum t first x from voting.w voting.now (knows done) (knows done) y packet.0 (says x (Accept p b v) y)
-        (writes (Voted p b v) (known x y (knows done)) (answer ∷ [])) voting.on next.has packet.1 packet.2 refl
+        (writes (Voted p b v) (known x y (knows done)) (answer ∷ [])) voting.on next.has packet.1 packet.2 refl tt
         (record {
           result = votes s y x (voting.now y) (known x y (knows done)) (within s quorum x records round begun x begun.bare.leader) p b begun.position v
               (is_owned (suc round) x node) promised.bound promised.below;
@@ -97,7 +97,7 @@ module _ {S : Type 0} (s : Setting S) (quorum : List ℕ) (t first x : ℕ) (fro
         → IsMoved s quorum t first x from votes_now.after turn.sent (with_written wrote x turn.written) after
     taken after turn becomes result =
         delivered s quorum t first x from votes_now.after wrote (knows done) after x (suc (length voting.w.sent)) answer turn votes_now.on begun.bare.leader
-        answer_new answer_there refl
+        answer_new answer_there refl tt
         (record {
           result = ap (λ (r : Running). running_effect s x (wrote x) r (nodes.Receive answer)) (known_self x (knows done)) ∙ result;
           becomes = becomes ∙ sym (known_self x after);

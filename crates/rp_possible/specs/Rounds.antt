@@ -14,11 +14,14 @@ use Rattle.rp_base.specs.declared.reply.Answer.{Answer}
 use Rattle.rp_model.specs.rp_codec.specs.Message.{Message}
 use Rattle.rp_model.specs.rp_codec.specs.declared.packet.Party.{Party}
 use Rattle.rp_model.specs.rp_codec.specs.declared.packet.Party.TheVariants.{Node, Task, Audit}
+use Rattle.rp_model.specs.rp_codec.specs.declared.packet.Body.{Body}
+use Rattle.rp_model.specs.rp_codec.specs.declared.packet.Body.TheVariants.{Call}
 use Rattle.rp_model.specs.rp_machine.specs.Replay.{counted_of, replay_answers}
 use Rattle.rp_model.specs.Effect.{Setting}
 use Rattle.rp_model.specs.Events.{Step, Deliver, Lead, LeadRange, Interrupt, Tick, Report, Ask}
 use Rattle.rp_model.specs.Events.{Event, Submit, Again, Makes, Cut, Stop, Restart, IsRightEvent}
-use Rattle.rp_model.specs.Parts.{Running, fresh_running}
+use Rattle.rp_model.specs.Facts.{IsDecided}
+use Rattle.rp_model.specs.Parts.{NodePart, Running, fresh_running}
 use Rattle.rp_model.specs.Pending.{own_action, stays, replies_to}
 use Rattle.rp_model.specs.World.{World, Transition, event_effect, part_at}
 
@@ -28,11 +31,30 @@ IsOneOf quorum t (Node k) = Has k quorum
 IsOneOf quorum t (Task u) = u ≡ t
 IsOneOf quorum t Audit = ⊥
 
--- the packet of this number is one sent after the first ones, to one of these nodes or this task
+-- the node has learned all that is decided: nothing is at the first position that it has not learned
+abbrev pub HasLearnedAll : World → ℕ → Type 0
+HasLearnedAll w k =
+    (part : NodePart) → part_at w.nodes k ≡ Some part → (v : Action)
+    → ¬ IsDecided (length w.nodes) w.sent (first_unlearned part.records) v
+
+-- so has the party, if it is a node
+abbrev pub IsUpToDate : World → Party → Type 0
+IsUpToDate w (Node k) = HasLearnedAll w k
+IsUpToDate w (Task u) = Unit {0}
+IsUpToDate w Audit = Unit {0}
+
+-- what is said to this party is no call, or the party has learned all that is decided
+abbrev pub ComesInTime : World → Party → Body → Type 0
+ComesInTime w to (Call action) = IsUpToDate w to
+ComesInTime w to body = Unit {0}
+
+-- The packet of this number is one sent after the first ones, to one of these nodes or this task;
+-- and it comes in time.
 abbrev pub DeliversNew : List ℕ → ℕ → ℕ → World → ℕ → Type 0
 DeliversNew quorum t first w number =
     (first < number)
-    × ((m : Message) × (part_at w.sent number ≡ Some m) × IsOneOf quorum t m.to)
+    × ((m : Message) × (part_at w.sent number ≡ Some m) × IsOneOf quorum t m.to
+    × ComesInTime w m.to m.body)
 
 -- one of these nodes leads, or gets a packet that is sent after the first ones
 abbrev pub IsTheirStep : List ℕ → ℕ → ℕ → World → Step → Type 0
@@ -46,7 +68,7 @@ IsTheirStep quorum t first w (Ask me to) = ⊥
 
 -- The event is one of these nodes or of this task: it asks or asks again, a node stops, starts
 -- again, leads or gets a packet. Of packets only those are delivered that were sent after the first
--- ones.
+-- ones, and a call only to a node that has learned all that is decided.
 abbrev pub IsTheirs : List ℕ → ℕ → ℕ → World → Event → Type 0
 IsTheirs quorum t first w (Submit task node object operation arg) = (task ≡ t) × Has node quorum
 IsTheirs quorum t first w (Again task node) = (task ≡ t) × Has node quorum

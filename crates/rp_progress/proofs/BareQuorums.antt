@@ -91,7 +91,7 @@ module _ (quorum others : List ℕ) (t first earlier : ℕ) (inside : (y : ℕ) 
   one_of_more Audit is = is
 
   step_of_more : (w : World) (step : Step) → IsTheirStep quorum t first w step → IsTheirStep others t earlier w step
-  step_of_more w (Deliver number) is = (omega (arith, is.0, less), (is.1.0, is.1.1, one_of_more is.1.0.to is.1.2))
+  step_of_more w (Deliver number) is = (omega (arith, is.0, less), (is.1.0, is.1.1, one_of_more is.1.0.to is.1.2, is.1.3))
   step_of_more w (Lead me choice) is = inside me is
   step_of_more w (LeadRange me position count) is = is
   step_of_more w (Interrupt me source occurrence) is = is

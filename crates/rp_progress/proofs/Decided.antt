@@ -1,5 +1,5 @@
 -- A call is answered by some answers, or by none.
-use Rattle.std.proofs.Common.{◌≡◌, ◌⊎◌, ℕ, List, [], ◌∷◌, inl, inr, refl, sym, ap, ◌∙◌}
+use Rattle.std.proofs.Common.{◌≡◌, ◌⊎◌, List, [], ◌∷◌, inl, inr, refl, sym, ap, ◌∙◌}
 use Rattle.std.proofs.lemmas.Bool.{cases_eq}
 use Rattle.rp_base.specs.Sets.{Has}
 use Rattle.rp_base.specs.declared.reply.Answer.{Answer}

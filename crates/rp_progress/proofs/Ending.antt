@@ -96,7 +96,7 @@ module _ {S : Type 0} (s : Setting S) (quorum : List ℕ) (t first x : ℕ) (rep
         record {
           events = Makes (Deliver number) ∷ [];
           after = (task_gets s w t replies taken).world;
-          goes_on = (task_gets s w t replies taken, reply_taken s w t replies number x n object operation arg answer.reply (omega arith) has here, tt, (new, (message, here, refl)), refl);
+          goes_on = (task_gets s w t replies taken, reply_taken s w t replies number x n object operation arg answer.reply (omega arith) has here, tt, (new, (message, here, refl, tt)), refl);
           place = place;
           counts = counts;
           replied = λ other is_other.

@@ -1,10 +1,8 @@
 -- The laws: any call that a task waits for, or makes next, and a log that is full.
-use Rattle.std.proofs.Common.{◌≡◌, ℕ, zero, suc, ◌-◌, ◌<◌, ◌≤◌, ◌⊎◌, true, Option, Some, None, Ok, List, [], ◌∷◌, ◌++◌, length, refl, sym, ap, subst, ◌∙◌, arith, append-nil, length-append, inl, inr}
+use Rattle.std.proofs.Common.{◌≡◌, ℕ, zero, suc, ◌-◌, ◌<◌, ◌≤◌, ◌⊎◌, Option, Some, None, Ok, List, [], ◌∷◌, ◌++◌, length, refl, sym, ap, subst, ◌∙◌, arith, append-nil, length-append, inl, inr}
 use Rattle.std.specs.Prelude.{ℤ, unwrap_or, slice_get}
-use Rattle.std.proofs.lemmas.Bool.{leb-true}
 use Rattle.rp_base.specs.Action.{IsRight}
 use Rattle.rp_base.specs.Config.{IsRightConfig}
-use Rattle.rp_base.specs.Majority.{majority_of}
 use Rattle.rp_base.specs.Number.{IsTask}
 use Rattle.rp_base.specs.Records.{first_unlearned}
 use Rattle.rp_base.specs.Sets.{Has}
@@ -12,25 +10,20 @@ use Rattle.rp_base.proofs.Members.{has_right}
 use Rattle.rp_base.specs.declared.action.Action.{Action}
 use Rattle.rp_base.specs.declared.action.Action.TheVariants as actions
 use Rattle.rp_base.specs.declared.action.Operation.{Operation}
-use Rattle.rp_base.specs.declared.record.Rec.{Rec}
-use Rattle.rp_base.specs.declared.record.Rec.TheVariants.{Voted}
 use Rattle.rp_base.specs.declared.reply.Answer.{Answer}
 use Rattle.rp_machine.specs.Calls.{CallName, calls_of}
 use Rattle.rp_machine.specs.Places.{IsPlace, HasReply}
 use Rattle.rp_model.specs.Effect.{Setting}
 use Rattle.rp_model.specs.Events.{Event, Submit, IsRightEvent}
-use Rattle.rp_model.specs.Facts.{IsDecided}
-use Rattle.rp_model.specs.Parts.{NodePart, TaskPart, fresh_task, is_in_log}
+use Rattle.rp_model.specs.Parts.{TaskPart, fresh_task}
 use Rattle.rp_model.specs.Tasks.{asks}
-use Rattle.rp_model.specs.World.{World, Transition, part_at, event_effect}
+use Rattle.rp_model.specs.World.{World, Transition, event_effect}
 use Rattle.rp_agreement.specs.Answered.{IsKeptWorld, Occurs, task_in, named}
 use Rattle.rp_agreement.specs.Computed.{order_of}
 use Rattle.rp_agreement.specs.Order.{IsPrefix}
-use Rattle.rp_agreement.specs.Sound.{IsSound}
 use Rattle.rp_agreement.specs.Worlds.{node_in, IsSoundWorld}
 use Rattle.rp_agreement.proofs.AnswersGrow.{applied_begins}
 use Rattle.rp_agreement.proofs.Computing.{order_is}
-use Rattle.rp_agreement.proofs.Following.{decided_cast}
 use Rattle.rp_agreement.proofs.Ordering.{applied_decided}
 use Rattle.rp_agreement.proofs.Places.{same_name, first_call}
 use Rattle.rp_possible.specs.Rounds.{GoesOnBy}
@@ -38,37 +31,14 @@ use Rattle.rp_progress.specs.Waiting.{IsQuorum, IsPositionLeft, AreBallotsLeft, 
 use Rattle.rp_progress.proofs.BareQuorums.{HasBare, has_bare, goes_by_more}
 use Rattle.rp_progress.proofs.Ending.{IsAnswering, Ends, Fills}
 use Rattle.rp_progress.proofs.Going.{keeps_on}
-use Rattle.rp_progress.proofs.Restarting.{records_here}
-use Rattle.rp_progress.proofs.Serving.{part_is, served, served_or_full}
-use Rattle.rp_progress.proofs.Unlearned.{get_there, unlearned_below, some_unvoted}
+use Rattle.rp_progress.proofs.InLog.{AllInLog, decided_in_log}
+use Rattle.rp_progress.proofs.Serving.{served, served_or_full}
+use Rattle.rp_progress.proofs.Unlearned.{get_there, get_after, unlearned_below, some_unvoted}
 use Rattle.rp_progress.proofs.TaskTurns.{task_sends, stays_there, made_next, is_operation}
 
 -- ---- a log that is full
 
--- each record of each node is at a position of the log, or at none
-abbrev pub AllInLog : ℕ → World → Type 0
-AllInLog most w = (y : ℕ) (part : NodePart) → part_at w.nodes y ≡ Some part → (rec : Rec) → Has rec part.records → is_in_log most rec ≡ true
-
--- a majority has a member
-one_voter : (nodes : ℕ) (voters : List ℕ) → majority_of nodes ≤ length voters → (a : ℕ) × Has a voters
-one_voter nodes [] enough = absurd (omega (arith, enough))
-one_voter nodes (a ∷ voters) enough = (a, inl refl)
-
-get_after : {A : Type 0} (xs : List A) (v : A) (rest : List A) → slice_get (xs ++ v ∷ rest) (length xs) ≡ Some v
-get_after [] v rest = refl
-get_after (x ∷ xs) v rest = get_after xs v rest
-
 module _ (nodes most : ℕ) where
-  -- what is decided is at a position of the log
-  decided_in_log : (w : World) → length w.nodes ≡ nodes → IsSound nodes (node_in w.nodes) w.sent → AllInLog most w → (i : ℕ) (v : Action) → IsDecided nodes w.sent i v → i ≤ most
-  decided_in_log w size sound in_log i v decided =
-      let cast = decided_cast sound i v decided in
-      let voter = one_voter nodes cast.voters cast.majority in
-      let member = cast.members.members voter.0 voter.1 in
-      let here = part_is w.nodes voter.0 member.0 (omega (arith, member.1, size)) in
-      let voted : Has (Voted i decided.ballot v) here.0.records = subst (λ (list : List Rec). Has (Voted i decided.ballot v) list) (records_here w voter.0 here.0 here.1) (cast.voted voter.0 voter.1) in
-      leb-true i most (in_log voter.0 here.0 here.1 (Voted i decided.ballot v) voted)
-
   -- where each position of the log is decided the order is at its end
   pub full_order : (now later : World) → IsSoundWorld nodes later → AllInLog most later → IsFull nodes most now → IsPrefix (order_of nodes now.sent) (order_of nodes later.sent)
       → order_of nodes later.sent ≡ order_of nodes now.sent
@@ -79,7 +49,7 @@ module _ (nodes most : ℕ) where
       by (v ∷ rest) same =
           let order = order_of nodes now.sent in
           let decided = (order_is nodes later.sent).decided (length order) v (ap (λ (list : List Action). slice_get list (length order)) same ∙ get_after order v rest) in
-          let within : suc (length order) ≤ most = decided_in_log later sound.size sound.sound in_log (suc (length order)) v decided in
+          let within : suc (length order) ≤ most = decided_in_log nodes most later sound.size sound.sound in_log (suc (length order)) v decided in
           let there = full (suc (length order)) (omega arith) within in
           absurd ((order_is nodes now.sent).longest there.0 there.1)
 
@@ -203,7 +173,7 @@ module _ {S : Type 0} (s : Setting S) (right : IsRightConfig s.config) (answerin
         elim (some_unvoted w quorum (suc most - p) p) [
           | inl left ↦ inl (waiting_served left.0 round (record { in_log = (omega (arith, left.1), omega (arith, left.1, left.2)); unvoted = left.3 })
               (record { within = ballots.within; enough = omega (arith, ballots.enough, left.1, left.2) }) call has)
-          | inr none ↦ elim (served_or_full s right answering bare.bare t (length w.sent) x bare.is_bare replies own.object own.operation own.arg own.is_task w round kept (omega arith) own.has (ballots_bare most round ballots)) [
+          | inr none ↦ elim (served_or_full s right answering bare.bare t (length w.sent) x bare.is_bare replies own.object own.operation own.arg own.is_task w round kept (omega arith) own.has (λ events u goes. in_log events u (by_quorum events u goes)) (ballots_bare most round ballots)) [
             | inl ends ↦ inl (is_served ends)
             | inr fills ↦ inr (is_filled in_log (λ i position.
                 let ahead : p ≤ i = unlearned_below kept.kept.sound quorum is.members is.majority i position.in_log.0 position.unvoted x in

@@ -5,6 +5,8 @@ pub mod Occurring
 pub mod TaskTurns
 pub mod NodeTurns
 pub mod Unlearned
+pub mod InLog
+pub mod CatchingUp
 pub mod Ending
 pub mod Looping
 pub mod Serving

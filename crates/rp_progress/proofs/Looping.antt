@@ -1,17 +1,16 @@
--- A leader at which a call waits leads at one position after the other until the call counts there.
-use Rattle.std.proofs.Common.{◌≡◌, ◌≢◌, ℕ, zero, suc, ◌+◌, ◌<◌, ◌≤◌, ◌^◌, true, ◌⊎◌, Option, Some, None, List, [], ◌∷◌, ◌++◌, length, filter, drop, inl, inr, refl, sym, ap, subst, ◌∙◌, arith, length-append, eq-eqb}
+-- A leader at which a call waits leads at its next position, where no node of the majority has voted:
+-- the call counts there.
+use Rattle.std.proofs.Common.{◌≡◌, ℕ, suc, ◌+◌, ◌<◌, ◌≤◌, ◌^◌, true, ◌⊎◌, Option, Some, None, List, [], ◌∷◌, ◌++◌, length, filter, drop, inl, inr, refl, sym, ap, subst, ◌∙◌, arith, length-append, eq-eqb}
 use Rattle.std.specs.Prelude.{ℤ}
 use Rattle.std.specs.List.{list_any}
 use Rattle.std.proofs.lemmas.Bool.{and_from, or_left}
-use Rattle.std.proofs.lemmas.Bool.Decides.{leb_tells}
 use Rattle.rp_base.specs.Config.{IsRightConfig}
-use Rattle.rp_base.specs.Records.{applied_of, first_unlearned, last_vote_at}
+use Rattle.rp_base.specs.Records.{applied_of, first_unlearned}
 use Rattle.rp_base.specs.Sets.{Has}
 use Rattle.rp_base.specs.declared.action.Action.{Action}
 use Rattle.rp_base.specs.declared.action.Action.TheVariants.{Call}
 use Rattle.rp_base.specs.declared.action.Operation.{Operation}
 use Rattle.rp_base.specs.declared.record.Rec.{Rec}
-use Rattle.rp_base.specs.declared.record.Rec.TheVariants.{Voted, Learned}
 use Rattle.rp_base.specs.declared.reply.Answer.{Answer}
 use Rattle.rp_base.proofs.Members.{has_split, has_right, has_mapped, passes}
 use Rattle.rp_codec.specs.Message.{Message}
@@ -22,7 +21,7 @@ use Rattle.rp_machine.specs.Replay.{is_for, replay_of, replay_answers, unmoved}
 use Rattle.rp_machine.proofs.Replaying.{replay_from-append, goes_on_from}
 use Rattle.rp_model.specs.Effect.{Setting}
 use Rattle.rp_model.specs.Parts.{TaskPart}
-use Rattle.rp_model.specs.Pending.{own_action, stays, is_answered_by}
+use Rattle.rp_model.specs.Pending.{own_action, is_answered_by}
 use Rattle.rp_model.specs.Says.{says_to_task}
 use Rattle.rp_model.specs.World.{World, part_at}
 use Rattle.rp_model.proofs.AppliedGrowing.{applied_more}
@@ -32,12 +31,11 @@ use Rattle.rp_agreement.proofs.AnswerAgain.{call_is}
 use Rattle.rp_agreement.proofs.Lists.{found_has, has_get}
 use Rattle.rp_possible.specs.Rounds.{AreWithinRound, AreRunning, only_pending, kept_after, answers_after, new_replies, IsRound, IsBareQuorum}
 use Rattle.rp_progress.specs.Waiting.{TaskHas, applied_in, records_in}
-use Rattle.rp_progress.proofs.Ending.{IsAnswering, Ends, Fills, made_so_far, ends_then, either_then, ends_with_reply}
+use Rattle.rp_progress.proofs.Ending.{IsAnswering, Ends, made_so_far, ends_then, ends_with_reply}
+use Rattle.rp_progress.proofs.CatchingUp.{NoVotes, applied_next}
 use Rattle.rp_progress.proofs.Going.{keeps_on}
-use Rattle.rp_progress.proofs.Unlearned.{unlearned_below, no_vote}
 use Rattle.rp_possible.proofs.Packets.{part_beyond}
-use Rattle.rp_possible.proofs.Runs.{learned_next}
-use Rattle.rp_progress.proofs.Occurring.{OccursFirst, occurs_or_not, first_is_place, answered_occurs, not_given, own_is_it, it_stays}
+use Rattle.rp_progress.proofs.Occurring.{OccursFirst, occurs_or_not, first_is_place, answered_occurs, not_given, own_is_it}
 use Rattle.rp_progress.proofs.Restarting.{records_here}
 use Rattle.rp_possible.proofs.Round.{a_round}
 
@@ -114,26 +112,6 @@ module _ {S : Type 0} (s : Setting S) (right : IsRightConfig s.config) (answerin
     none_before : ¬ Occurs (named t (suc m)) (applied_in w x)
     none_before = subst (λ (list : List Rec). ¬ Occurs (named t (suc m)) (applied_of list)) (sym records_were) none
 
-    -- what it learned is applied next
-    applied_next : (further : List Action) × (applied_of (turn.later x) ≡ applied_of (records x) ++ turn.v ∷ further)
-    applied_next =
-        let place : first_unlearned turn.before ≡ first_unlearned (records x) = ap (λ (list : List Action). suc (length list)) turn.applied in
-        let next = learned_next turn.before turn.v in (
-          next.0,
-          ap (λ (list : List Rec). applied_of list) turn.learns
-              ∙ ap (λ (p : ℕ). applied_of (turn.before ++ Learned p turn.v ∷ [])) (sym place)
-              ∙ next.1
-              ∙ ap (λ (list : List Action). list ++ turn.v ∷ next.0) turn.applied,
-        )
-
-    -- so more is applied
-    unlearned_more : first_unlearned (records x) < first_unlearned (turn.later x)
-    unlearned_more =
-        let next = applied_next in
-        let long : length (applied_of (turn.later x)) ≡ length (applied_of (records x)) + suc (length next.0) =
-        ap (λ (list : List Action). length list) next.1 ∙ length-append (applied_of (records x)) (turn.v ∷ next.0) in
-        omega (arith, long)
-
     -- ---- the call counts now
 
     ends_here : OccursFirst (named t (suc m)) (applied_in v x) → Ends s quorum t first x replies v
@@ -172,95 +150,31 @@ module _ {S : Type 0} (s : Setting S) (right : IsRightConfig s.config) (answerin
             ends_with_reply s quorum t first x replies answering object operation arg v answer (suc occurs.index) (length turn.sends + suc sent_to.0) kept_then has_then place (is, there.0)
             (omega (arith, enough, turn.grows)) here
 
-    -- ---- or it waits on
+    -- ---- it does
 
-    module _ (none_now : ¬ Occurs (named t (suc m)) (applied_in v x)) where
-      waits_on : AreRunning v quorum x turn.later (only_pending (call ∷ []))
-      waits_on =
-          let stay : (newly : List Action) → filter (stays (kept_after s (turn.later x)) (answers_after s (turn.later x)) newly) (call ∷ []) ≡ call ∷ [] =
-          λ newly. subst (λ (list : List Rec). filter (stays (kept_after s list) (answers_after s list) newly) (call ∷ []) ≡ call ∷ []) (records_are x bare.leader)
-          (it_stays s (node_in v.nodes) (task_in v.tasks) v.sent kept_then.kept answering.known x t m (made_so_far v t replies call has_then) none_now object operation arg newly) in
-          subst (λ (pending : List Action). AreRunning v quorum x turn.later (only_pending pending)) (stay (drop (length (applied_of turn.before)) (applied_of (turn.later x)))) turn.running
+    -- the leader's own action is decided where nobody had voted, and that is the call
+    not_absent : NoVotes records quorum (first_unlearned (records x)) → ¬ (¬ Occurs (named t (suc m)) (applied_in v x))
+    not_absent unvoted none_now =
+        let its : own_action (kept_after s (records x)) [] (call ∷ []) ≡ call =
+        subst (λ (list : List Rec). own_action (kept_after s list) [] (call ∷ []) ≡ call) records_were
+        (own_is_it s (node_in w.nodes) (task_in w.tasks) w.sent kept.kept answering.known x t m (made_so_far w t replies call has) none_before object operation arg) in
+        let next = applied_next s quorum t first x w records (call ∷ []) round turn in
+        let there : Has turn.v (applied_of (turn.later x)) =
+        subst (λ (list : List Action). Has turn.v list) (sym next.1) (has_right turn.v (applied_of (records x)) (turn.v ∷ next.0) (inl refl)) in
+        let here : Has call (applied_in v x) =
+        subst (λ (a : Action). Has a (applied_in v x)) (turn.own unvoted ∙ its) (subst (λ (list : List Rec). Has turn.v (applied_of list)) (sym (records_are x bare.leader)) there) in
+        none_now (call, here, inl refl)
 
-      -- some node voted there
-      voted_there : (i : ℕ) → ((y : ℕ) → Has y quorum → last_vote_at (records y) i ≡ None) → i ≢ first_unlearned (records x)
-      voted_there i unvoted same =
-          let own : turn.v ≡ own_action (kept_after s (records x)) [] (call ∷ []) = turn.own (λ y h. subst (λ (p : ℕ). last_vote_at (records y) p ≡ None) same (unvoted y h)) in
-          let its : own_action (kept_after s (records x)) [] (call ∷ []) ≡ call =
-          subst (λ (list : List Rec). own_action (kept_after s list) [] (call ∷ []) ≡ call) records_were
-          (own_is_it s (node_in w.nodes) (task_in w.tasks) w.sent kept.kept answering.known x t m (made_so_far w t replies call has) none_before object operation arg) in
-          let next = applied_next in
-          let there : Has turn.v (applied_of (turn.later x)) =
-          subst (λ (list : List Action). Has turn.v list) (sym next.1) (has_right turn.v (applied_of (records x)) (turn.v ∷ next.0) (inl refl)) in
-          let here : Has call (applied_in v x) =
-          subst (λ (a : Action). Has a (applied_in v x)) (own ∙ its) (subst (λ (list : List Rec). Has turn.v (applied_of list)) (sym (records_are x bare.leader)) there) in
-          none_now (call, here, inl refl)
-
-      unvoted_then : (i : ℕ) → ((y : ℕ) → Has y quorum → last_vote_at (records y) i ≡ None) → (y : ℕ) → Has y quorum → last_vote_at (turn.later y) i ≡ None
-      unvoted_then i unvoted y h = turn.votes y i h (voted_there i unvoted) ∙ unvoted y h
-
-      ahead_then : (i : ℕ) → 1 ≤ i → ((y : ℕ) → Has y quorum → last_vote_at (records y) i ≡ None) → first_unlearned (turn.later x) ≤ i
-      ahead_then i low unvoted =
-          subst (λ (list : List Rec). first_unlearned list ≤ i) (records_are x bare.leader)
-          (unlearned_below kept_then.kept.sound quorum bare.nodes (omega (arith, bare.bare)) i low
-          (λ y b a h. subst (λ (list : List Rec). ¬ Has (Voted i b a) list) (sym (records_are y h)) (no_vote (turn.later y) i (unvoted_then i unvoted y h) b a)) x)
-
-  -- ---- turn after turn
-
-  -- the log is full
-  full_here : (w : World) (records : ℕ → List Rec) → AreRunning w quorum x records (only_pending (call ∷ [])) → (¬ Occurs (named t (suc m)) (applied_of (records x)))
-      → s.config.max_positions < first_unlearned (records x) → Fills s quorum t first x replies w
-  full_here w records running none full =
-      let were : records_in w x ≡ records x = records_here w x _ (running.each x bare.leader) in
-      record {
-        events = [];
-        after = w;
-        goes_on = refl;
-        full = subst (λ (list : List Rec). s.config.max_positions < first_unlearned list) (sym were) full;
-        absent = subst (λ (list : List Rec). ¬ Occurs (named t (suc m)) (applied_of list)) (sym were) none;
-      }
-
-  pub until_it_counts : (n : ℕ) (w : World) (records : ℕ → List Rec) (i round : ℕ) → IsKeptWorld s w → first ≤ length w.sent → TaskHas w t replies (Some call)
+  -- by one round
+  pub it_counts : (w : World) (records : ℕ → List Rec) (round : ℕ) → IsKeptWorld s w → first ≤ length w.sent → TaskHas w t replies (Some call)
       → AreRunning w quorum x records (only_pending (call ∷ [])) → (¬ Occurs (named t (suc m)) (applied_of (records x)))
-      → i ≤ s.config.max_positions → first_unlearned (records x) ≤ i → i < first_unlearned (records x) + n → round + n < 2 ^ 32
-      → ((y : ℕ) → Has y quorum → last_vote_at (records y) i ≡ None) → ((y : ℕ) → Has y quorum → AreWithinRound round (records y))
+      → first_unlearned (records x) ≤ s.config.max_positions → suc round < 2 ^ 32
+      → NoVotes records quorum (first_unlearned (records x)) → ((y : ℕ) → Has y quorum → AreWithinRound round (records y))
       → Ends s quorum t first x replies w
-  until_it_counts zero w records i round kept enough has running none in_log ahead near rounds unvoted within = absurd (omega (arith, ahead, near))
-  until_it_counts (suc n) w records i round kept enough has running none in_log ahead near rounds unvoted within =
-      let turn = a_round s quorum t first w x records (call ∷ []) round right bare enough running (omega (arith, ahead, in_log)) within (omega (arith, rounds)) in
+  it_counts w records round kept enough has running none in_log left unvoted within =
+      let turn = a_round s quorum t first w x records (call ∷ []) round right bare enough running in_log within left in
       ends_then s quorum t first x replies w turn.events turn.after turn.goes_on
       (elim (occurs_or_not t (suc m) (applied_in turn.after x)) [
         | inr occurs ↦ ends_here w records round kept enough has running none turn occurs
-        | inl none_now ↦
-            let more = unlearned_more w records round kept enough has running none turn in
-            until_it_counts n turn.after turn.later i (suc round) (kept_then w records round kept enough has running none turn) (enough_then w records round kept enough has running none turn)
-            (has_then w records round kept enough has running none turn) (waits_on w records round kept enough has running none turn none_now)
-            (subst (λ (list : List Rec). ¬ Occurs (named t (suc m)) (applied_of list)) (records_are w records round kept enough has running none turn x bare.leader) none_now)
-            in_log (ahead_then w records round kept enough has running none turn none_now i (omega (arith, ahead)) unvoted)
-            (omega (arith, near, more)) (omega (arith, rounds)) (unvoted_then w records round kept enough has running none turn none_now i unvoted) turn.rounds
+        | inl none_now ↦ absurd (not_absent w records round kept enough has running none turn unvoted none_now)
       ])
-
-  -- or until the log is full
-  pub until_it_counts_or_full : (n : ℕ) (w : World) (records : ℕ → List Rec) (round : ℕ) → IsKeptWorld s w → first ≤ length w.sent → TaskHas w t replies (Some call)
-      → AreRunning w quorum x records (only_pending (call ∷ [])) → (¬ Occurs (named t (suc m)) (applied_of (records x)))
-      → s.config.max_positions < first_unlearned (records x) + n → round + n < 2 ^ 32
-      → ((y : ℕ) → Has y quorum → AreWithinRound round (records y))
-      → Ends s quorum t first x replies w ⊎ Fills s quorum t first x replies w
-  until_it_counts_or_full zero w records round kept enough has running none near rounds within =
-      inr (full_here w records running none (omega (arith, near)))
-  until_it_counts_or_full (suc n) w records round kept enough has running none near rounds within =
-      elim (leb_tells (first_unlearned (records x)) s.config.max_positions) [
-        | inr full ↦ inr (full_here w records running none full.1)
-        | inl left ↦
-            let turn = a_round s quorum t first w x records (call ∷ []) round right bare enough running left.1 within (omega (arith, rounds)) in
-            either_then s quorum t first x replies w turn.events turn.after turn.goes_on
-            (elim (occurs_or_not t (suc m) (applied_in turn.after x)) [
-              | inr occurs ↦ inl (ends_here w records round kept enough has running none turn occurs)
-              | inl none_now ↦
-                  let more = unlearned_more w records round kept enough has running none turn in
-                  until_it_counts_or_full n turn.after turn.later (suc round) (kept_then w records round kept enough has running none turn) (enough_then w records round kept enough has running none turn)
-                  (has_then w records round kept enough has running none turn) (waits_on w records round kept enough has running none turn none_now)
-                  (subst (λ (list : List Rec). ¬ Occurs (named t (suc m)) (applied_of list)) (records_are w records round kept enough has running none turn x bare.leader) none_now)
-                  (omega (arith, near, more)) (omega (arith, rounds)) turn.rounds
-            ])
-      ]

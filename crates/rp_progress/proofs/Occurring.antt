@@ -1,8 +1,8 @@
 -- The calls that occur in what a node has applied: which they are, and that one counts where it first
 -- occurs.
-use Rattle.std.proofs.Common.{◌≡◌, ◌≢◌, ℕ, zero, suc, ◌<◌, ◌≤◌, true, false, ◌⊎◌, Option, Some, None, List, [], ◌∷◌, ◌++◌, length, map, filter, take, drop, inl, inr, refl, sym, ap, subst, ◌∙◌, arith, lt-ltb, le-leb, le-ltb}
-use Rattle.std.specs.Prelude.{ℤ, slice_get, nat_lt, find, unwrap_or, is_none}
-use Rattle.std.proofs.lemmas.Bool.{cases_eq, cond-true, and_from}
+use Rattle.std.proofs.Common.{◌≡◌, ◌≢◌, ℕ, zero, suc, ◌<◌, ◌≤◌, true, false, ◌⊎◌, Option, Some, None, List, [], ◌∷◌, ◌++◌, length, map, take, drop, inl, inr, refl, sym, ap, subst, ◌∙◌, arith, lt-ltb, le-ltb}
+use Rattle.std.specs.Prelude.{ℤ, slice_get, nat_lt, find, unwrap_or}
+use Rattle.std.proofs.lemmas.Bool.{cases_eq, cond-true}
 use Rattle.std.proofs.lemmas.List.{take-append-le}
 use Rattle.std.proofs.lemmas.Option.{slice_get_within}
 use Rattle.rp_base.specs.Action.{IsRight}
@@ -22,7 +22,7 @@ use Rattle.rp_machine.specs.Replay.{number_for, numbers_of, is_for, unmoved, cou
 use Rattle.rp_machine.proofs.Calling.{made_number}
 use Rattle.rp_model.specs.Effect.{Setting}
 use Rattle.rp_model.specs.Parts.{NodePart, TaskPart}
-use Rattle.rp_model.specs.Pending.{own_action, is_free_item, stays}
+use Rattle.rp_model.specs.Pending.{own_action, is_free_item}
 use Rattle.rp_agreement.specs.Answered.{answers_of, named, calls_so_far, Occurs, IsKept}
 use Rattle.rp_agreement.specs.Asked.{IsAsked}
 use Rattle.rp_agreement.specs.Computed.{order_of}
@@ -213,14 +213,6 @@ module _ {S : Type 0} (s : Setting S) (node : ℕ → NodePart) (task : ℕ → 
           let below : last_number t counted ≤ m = last_below in
           let hit : nat_lt (last_number t counted) (suc m) ≡ true = lt-ltb (last_number t counted) (suc m) (omega (arith, below)) in
           ap (λ (o : Option Action). unwrap_or o actions.Noop) (cond-true (is_free_item counted [] call) (Some call) (find (is_free_item counted []) []) hit)
-
-      -- and it goes on waiting
-      pub it_stays : (object : ℕ) (operation : Operation) (arg : ℤ) (newly : List Action)
-          → (let call = actions.Call t (suc m) object operation arg in filter (stays counted given newly) (call ∷ []) ≡ call ∷ [])
-      it_stays object operation arg newly =
-          let call = actions.Call t (suc m) object operation arg in
-          let hit : stays counted given newly call ≡ true = and_from _ _ (ap is_none unanswered) (le-leb (last_number t counted) (suc m) last_at_most) in
-          cond-true (stays counted given newly call) (call ∷ []) [] hit
 
   -- what is not found is not given
   pub not_given : (t n : ℕ) → answer_to t n given ≡ None → (answer : Answer) → ¬ IsAnswerOf s.next s.answers s.begin applied (named t n) answer

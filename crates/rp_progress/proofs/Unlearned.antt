@@ -1,5 +1,5 @@
 -- A position at which no node of a majority voted is not decided, and no node has learned it.
-use Rattle.std.proofs.Common.{◌≡◌, ℕ, zero, suc, ◌+◌, ◌<◌, ◌≤◌, ◌⊎◌, Option, Some, None, List, [], ◌∷◌, length, inl, inr, refl, sym, subst, ◌∙◌, arith}
+use Rattle.std.proofs.Common.{◌≡◌, ℕ, zero, suc, ◌+◌, ◌<◌, ◌≤◌, ◌⊎◌, Option, Some, None, List, [], ◌∷◌, ◌++◌, length, inl, inr, refl, sym, subst, ◌∙◌, arith}
 use Rattle.std.specs.Prelude.{slice_get}
 use Rattle.std.proofs.lemmas.Bool.Decides.{leb_tells}
 use Rattle.rp_base.specs.Majority.{AreNodes, majority_of}
@@ -25,6 +25,10 @@ pub get_there : {A : Type 0} (xs : List A) (k : ℕ) → k < length xs → (x : 
 get_there [] k less = absurd (omega (arith, less))
 get_there (x ∷ xs) zero less = (x, refl)
 get_there (x ∷ xs) (suc k) less = get_there xs k (omega (arith, less))
+
+pub get_after : {A : Type 0} (xs : List A) (v : A) (rest : List A) → slice_get (xs ++ v ∷ rest) (length xs) ≡ Some v
+get_after [] v rest = refl
+get_after (x ∷ xs) v rest = get_after xs v rest
 
 module _ {nodes : ℕ} {node : ℕ → NodePart} {sent : List Message} (sound : IsSound nodes node sent) where
   -- a position at which no node of a majority voted is not applied

@@ -35,16 +35,18 @@ use Rattle.rp_model.specs.Parts.{NodePart, Running, TaskPart, Turn, fresh_runnin
 use Rattle.rp_model.specs.Tasks as tasks
 use Rattle.rp_model.specs.Tasks.{may_call, calls_if, asks, asks_again, takes_reply, task_hears, task_effect}
 use Rattle.rp_model.specs.World.{World, Transition, part_at, nothing_happens, node_done, node_done_if, task_done, task_done_if, task_takes, commanded, reaches_node, reaches_number, reaches_task, reaches, delivers, chosen_effect, stops, restarts, event_effect}
-use Rattle.rp_agreement.specs.Answered.{calls_so_far}
+use Rattle.rp_agreement.specs.Answered.{IsKeptWorld, calls_so_far}
 use Rattle.rp_agreement.specs.History.{IsHistory}
 use Rattle.rp_agreement.specs.Ranges.{IsRangedWorld}
 use Rattle.rp_agreement.proofs.LogKeeping.{history_in_log}
 use Rattle.rp_agreement.proofs.PartPlaces.{part_has}
+use Rattle.rp_agreement.proofs.Places.{AnswersKnown}
 use Rattle.rp_world.specs.rp_replica.specs.Inputs.{effect_if_given}
 use Rattle.rp_world.specs.rp_replica.specs.State.{part_of}
 use Rattle.rp_world.specs.rp_store.specs.Records.{AreTextsOf}
 use Rattle.rp_world.specs.rp_store.proofs.Whole.{are_alone, texts_end}
 use Rattle.rp_requests.specs.Nodes.{after_step, stored_by}
+use Rattle.rp_requests.specs.Timing.{comes_early, comes_late}
 use Rattle.rp_requests.specs.Requests.{Step, asked_of}
 use Rattle.rp_requests.specs.TaskRequests.{TaskAsked, MakeCall, SendAgain, TakePacket, task_asked_of}
 use Rattle.rp_requests.specs.Tasks.{is_task, reply_taken, outstanding_reply}
@@ -56,8 +58,9 @@ use Rattle.rp_installations.specs.Sites.{NodeSite, Installation, closed_over}
 use Rattle.rp_installations.proofs.Pieces.{each_packet, all_pass}
 use Rattle.rp_installations.proofs.Starts.{effect_alike}
 use Rattle.rp_installations.proofs.Stepping.{goes_on}
-use Rattle.rp_possible.specs.Rounds.{IsOneOf, IsTheirs, GoesOnBy}
+use Rattle.rp_possible.specs.Rounds.{IsOneOf, IsTheirs, ComesInTime, GoesOnBy}
 use Rattle.rp_progress_by_handle.proofs.Bytes.{Bytes, are_bytes, packet_bytes, position_bytes, call_bytes}
+use Rattle.rp_progress_by_handle.proofs.InTime.{comes_in_time}
 use Rattle.rp_progress_by_handle.proofs.Level.{IsOpenLevel, IsLevelNode, OpenLevel, ClosedLevel, returned, IsLevel, Follows, follows_node, follows_task}
 use Rattle.rp_progress_by_handle.proofs.NodeMoves.{open_site, opened_node, closes_on, opens_on, steps_on}
 use Rattle.rp_progress_by_handle.proofs.Reaching.{TaskReaches, stands, goes_then, stays, task_stays}
@@ -116,6 +119,7 @@ number_some number None e =
 
 module _ {S : Type 0} (s : Setting S) (image : S → List ℕ) (quorum : List ℕ) (t first : ℕ) (members : (y : ℕ) → Has y quorum → y ≤ s.config.nodes)
     (ranged : (events : List Event) (w : World) → IsHistory s events w → IsRangedWorld s.config.nodes w)
+    (keeps : (events : List Event) (w : World) → IsHistory s events w → IsKeptWorld s w) (known : AnswersKnown s)
     (reads : (input : NodeInput) → FitsStep input → asked_of (step_text input) ≡ Some (Step (Ok input)))
     (reads_task : (request : TaskAsked) → FitsTaskRequest request → task_asked_of (task_request_text request) ≡ Some request) where
   -- a node of a world that a history leads to: each record is one, and is in the log
@@ -147,7 +151,8 @@ module _ {S : Type 0} (s : Setting S) (image : S → List ℕ) (quorum : List �
     -- ---- a step of a node
 
     module _ (me : ℕ) (has : Has me quorum) (part : NodePart) (there : part_at w.nodes me ≡ Some part) (site : NodeSite S) (here : part_at i.nodes me ≡ Some site) where
-      module _ (input : NodeInput) (fits : FitsStep input) (bytes : AreBytes (step_text input)) (came : WasHandedOn i.handed_on node_receives_byte (step_text input)) where
+      module _ (input : NodeInput) (fits : FitsStep input) (bytes : AreBytes (step_text input)) (came : WasHandedOn i.handed_on node_receives_byte (step_text input))
+          (in_time : (o : IsOpenLevel s me part site) → comes_early s.next s.answers o.node.replica (Ok input) ≡ false) where
         by_result : (o : IsOpenLevel s me part site) (r : Result Turn Fault) → running_effect s me o.node.replica.records o.node.replica.running input ≡ r
             → node_done_if w me (turn_done_if (part_of o.node.replica) (running_effect s me o.node.replica.records o.node.replica.running input)) ≡ Ok transition → To transition.world
         by_result o (Err fault) is done = absurd (never fault transition _ (ap (λ (r : Result Turn Fault). node_done_if w me (turn_done_if (part_of o.node.replica) r)) is) done)
@@ -161,12 +166,12 @@ module _ {S : Type 0} (s : Setting S) (image : S → List ℕ) (quorum : List �
             let given : effect_if_given s.next s.answers node.replica (Ok input) ≡ Ok turn =
             (λ n. at (o.set_up.me_is n) (o.set_up.config n)) ∙ effect_alike s.config s.next s.answers node.replica.begin s.begin o.set_up.begin me node.replica.records node.replica.running input ∙ is in
             let each : AllByRecursion IsPacket turn.sent = each_packet turn.sent (λ m h. after.packets m (subst (λ (x : Transition). Has m x.world.sent) same (has_right m w.sent turn.sent h))) in
-            let reach = steps_on s.next s.answers image s.config s.begin quorum t reads me has node site.synced site.step_packets site.noted input turn fits bytes given each i (here ∙ ap (λ (x : NodeSite S). Some x) o.site_is) came in
+            let reach = steps_on s.next s.answers image s.config s.begin quorum t reads me has node site.synced site.step_packets site.noted input turn fits bytes given (in_time o) each i (here ∙ ap (λ (x : NodeSite S). Some x) o.site_is) came in
             let records = subst (λ (q : NodePart). AreTextsOf q.records site.synced) (sym o.reached) o.records in
             subst (λ (x : Transition). To x.world) same
             (follows_node s image quorum t first w i level me part there (turn_done p turn) _ (map text_of turn.sent) reach
             (OpenLevel (record {
-              node = after_step node turn;
+              node = after_step node (comes_late s.next s.answers node.replica (Ok input)) turn;
               site_is = refl;
               set_up = record { me_is = o.set_up.me_is; config = o.set_up.config; begin = o.set_up.begin };
               reached = refl;
@@ -320,24 +325,25 @@ module _ {S : Type 0} (s : Setting S) (image : S → List ℕ) (quorum : List �
     arrives m has packet is = subst (λ (p : List ℕ). Has p i.handed_on) (ap rest_of is) has
 
     reaches_running : (k : ℕ) (m : Message) → Has k quorum → (part : NodePart) → part_at w.nodes k ≡ Some part → (site : NodeSite S) → part_at i.nodes k ≡ Some site → IsLevelNode s k part site → IsPacket m → Has (text_of m) i.handed_on
-        → (running : Option Running) → part.running ≡ running → chosen_effect s w (reaches_node k m part running) ≡ Ok transition → To transition.world
-    reaches_running k m has part there site here is packet handed None stopped done =
+        → Has m w.sent → m.to ≡ parties.Node k → ComesInTime w m.to m.body → (running : Option Running) → part.running ≡ running → chosen_effect s w (reaches_node k m part running) ≡ Ok transition → To transition.world
+    reaches_running k m has part there site here is packet handed sent to timely None stopped done =
         let same : nothing_happens w ≡ transition = same_transition (nothing_happens w) transition _ refl done in
         subst (λ (x : Transition). To x.world) same (record { later = i; goes = stands s.next s.answers image s.config s.begin quorum t i; level = level })
-    reaches_running k m has part there site here is packet handed (Some running) runs done =
+    reaches_running k m has part there site here is packet handed sent to timely (Some running) runs done =
         let bytes : Bytes (step_text (inputs.NodeInput.Receive m)) = (omega arith, packet_bytes m packet) in
-        steps_node k has part there site here (inputs.NodeInput.Receive m) packet (are_bytes (step_text (inputs.NodeInput.Receive m)) bytes) (arrives m handed) is done
+        steps_node k has part there site here (inputs.NodeInput.Receive m) packet (are_bytes (step_text (inputs.NodeInput.Receive m)) bytes) (arrives m handed)
+        (λ o. comes_in_time s known w (keeps events w history) k part there k o.node o.set_up (ap (λ (p : NodePart). p.records) o.reached) m sent to timely) is done
 
-    reaches_party : (m : Message) (to : Party) → m.to ≡ to → IsOneOf quorum t to → IsPacket m → Has (text_of m) i.handed_on → chosen_effect s w (reaches w m to) ≡ Ok transition → To transition.world
-    reaches_party m (parties.Node k) to has packet handed done =
+    reaches_party : (m : Message) (to : Party) → m.to ≡ to → IsOneOf quorum t to → IsPacket m → Has (text_of m) i.handed_on → Has m w.sent → ComesInTime w m.to m.body → chosen_effect s w (reaches w m to) ≡ Ok transition → To transition.world
+    reaches_party m (parties.Node k) to has packet handed sent timely done =
         let l = level.nodes k has in
-        reaches_running k m has l.part l.there l.site l.here l.level packet handed l.part.running refl (sym (ap (λ (o : Option NodePart). chosen_effect s w (reaches_number k m o)) l.there) ∙ done)
-    reaches_party m (parties.Task u) to same packet handed done =
+        reaches_running k m has l.part l.there l.site l.here l.level packet handed sent to timely l.part.running refl (sym (ap (λ (o : Option NodePart). chosen_effect s w (reaches_number k m o)) l.there) ∙ done)
+    reaches_party m (parties.Task u) to same packet handed sent timely done =
         let l = level.task in
         let at : chosen_effect s w (reaches_task t m (part_at w.tasks t)) ≡ Ok transition = subst (λ (k : ℕ). chosen_effect s w (reaches_task k m (part_at w.tasks k)) ≡ Ok transition) same done in
         let heard = task_done w t (task_hears t l.part m.body) in
         hears_packet l.part m m.body l.here packet handed (to ∙ ap (λ (k : ℕ). parties.Task k) same) refl (same_transition heard transition _ (ap (λ (o : Option TaskPart). chosen_effect s w (reaches_task t m o)) l.there) at)
-    reaches_party m parties.Audit to none packet handed done = absurd none
+    reaches_party m parties.Audit to none packet handed sent timely done = absurd none
 
     -- ---- a node leads
 
@@ -353,11 +359,11 @@ module _ {S : Type 0} (s : Setting S) (image : S → List ℕ) (quorum : List �
         by_choice None is done =
             let l = level.nodes me has in
             let bytes : Bytes (step_text (inputs.NodeInput.Lead None)) = (omega arith, tt) in
-            steps_node me has l.part l.there l.site l.here (inputs.NodeInput.Lead None) tt (are_bytes (step_text (inputs.NodeInput.Lead None)) bytes) (no_packet []) l.level done
+            steps_node me has l.part l.there l.site l.here (inputs.NodeInput.Lead None) tt (are_bytes (step_text (inputs.NodeInput.Lead None)) bytes) (no_packet []) (λ o. refl) l.level done
         by_choice (Some position) is done =
             let l = level.nodes me has in
             let bytes : Bytes (step_text (inputs.NodeInput.Lead (Some position))) = (omega arith, position_bytes position) in
-            steps_node me has l.part l.there l.site l.here (inputs.NodeInput.Lead (Some position)) is (are_bytes (step_text (inputs.NodeInput.Lead (Some position))) bytes) (no_packet (rest_of (step_text (inputs.NodeInput.Lead (Some position))))) l.level done
+            steps_node me has l.part l.there l.site l.here (inputs.NodeInput.Lead (Some position)) is (are_bytes (step_text (inputs.NodeInput.Lead (Some position))) bytes) (no_packet (rest_of (step_text (inputs.NodeInput.Lead (Some position))))) (λ o. refl) l.level done
 
   -- ---- any event of the quorum and the task
 
@@ -375,7 +381,7 @@ module _ {S : Type 0} (s : Setting S) (image : S → List ℕ) (quorum : List �
   makes events w history i level (Makes (Deliver number)) transition effect right theirs =
       let m = theirs.1.0 in
       let at = theirs.1.1 in
-      reaches_party events w history i level (Makes (Deliver number)) transition effect right m m.to refl theirs.1.2 ((ranged events w history).packets m (part_has w.sent number m at)) (level.sent number m theirs.0 at)
+      reaches_party events w history i level (Makes (Deliver number)) transition effect right m m.to refl theirs.1.2 ((ranged events w history).packets m (part_has w.sent number m at)) (level.sent number m theirs.0 at) (part_has w.sent number m at) theirs.1.3
       (sym (ap (λ (o : Option Message). chosen_effect s w (delivers w o)) at) ∙ effect)
   makes events w history i level (Makes (Lead me choice)) transition effect right theirs =
       leads events w history i level (Makes (Lead me choice)) transition effect right me choice theirs right.1 effect

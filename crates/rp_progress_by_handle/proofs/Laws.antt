@@ -16,8 +16,10 @@ use Rattle.rp_model.specs.Effect.{Setting, NodeInput}
 use Rattle.rp_model.specs.Events.{Event}
 use Rattle.rp_model.specs.Parts.{NodePart, TaskPart}
 use Rattle.rp_model.specs.World.{World, part_at, with_part}
+use Rattle.rp_agreement.specs.Answered.{IsKeptWorld}
 use Rattle.rp_agreement.specs.History.{IsHistory}
 use Rattle.rp_agreement.specs.Ranges.{IsRangedWorld}
+use Rattle.rp_agreement.proofs.Places.{AnswersKnown}
 use Rattle.rp_agreement.proofs.PartPlaces.{part_below, put_there, put_beside}
 use Rattle.rp_world.specs.rp_store.proofs.Whole.{are_alone}
 use Rattle.rp_requests.specs.Nodes.{NodeState}
@@ -45,6 +47,7 @@ use Rattle.rp_progress_by_handle.proofs.TaskMoves.{task_site}
 
 module _ {S : Type 0} (s : Setting S) (image : S → List ℕ) (quorum : List ℕ) (leader t : ℕ) (is : IsQuorum s.config.nodes quorum leader)
     (ranged : (events : List Event) (w : World) → IsHistory s events w → IsRangedWorld s.config.nodes w)
+    (keeps : (events : List Event) (w : World) → IsHistory s events w → IsKeptWorld s w) (known : AnswersKnown s)
     (reads : (input : NodeInput) → FitsStep input → asked_of (step_text input) ≡ Some (Step (Ok input)))
     (reads_task : (request : TaskAsked) → FitsTaskRequest request → task_asked_of (task_request_text request) ≡ Some request) where
   within : (y : ℕ) → Has y quorum → y ≤ s.config.nodes
@@ -99,7 +102,7 @@ module _ {S : Type 0} (s : Setting S) (image : S → List ℕ) (quorum : List �
       counted = counted_at i l.site o.node l.here (ap (λ (x : NodeSite S). x.node) o.site_is) (ap (λ (p : NodePart). p.records) o.reached ∙ sym (records_here can.after leader l.part l.there)) level.task;
     }
     counts_at events history i level l (ClosedLevel c) =
-        let whole = whole_records s image quorum t first within ranged reads reads_task events can.after history leader l.part l.there in
+        let whole = whole_records s image quorum t first within ranged keeps known reads reads_task events can.after history leader l.part l.there in
         let are = are_alone l.site.synced l.part.records c.records whole.0 in
         let reach = opens_on s.next s.answers image s.config s.begin quorum t i leader l.site.synced l.site.noted l.part.records [] is.leads (l.here ∙ ap (λ (x : NodeSite S). Some x) c.site_is) are in
         let task = level.task in
@@ -196,7 +199,7 @@ module _ {S : Type 0} (s : Setting S) (image : S → List ℕ) (quorum : List �
     -- what the history can go on with is made
     counts_by : (begins : List Event) (number : ℕ) → number ≡ suc (length part.replies) → CanCount s quorum leader t part.replies world begins → Can number start
     counts_by begins number numbered can =
-        let followed = makes_all s image quorum t (length world.sent) within ranged reads reads_task (begins ++ can.more) so_far world can.after on_now.history reopened.later level can.goes_on in
+        let followed = makes_all s image quorum t (length world.sent) within ranged keeps known reads reads_task (begins ++ can.more) so_far world can.after on_now.history reopened.later level can.goes_on in
         let l = followed.level.nodes leader is.leads in
         let ends = counts_at (length world.sent) world can.after part.replies begins can (so_far ++ (begins ++ can.more)) (is_history s quorum t (length world.sent) so_far (begins ++ can.more) world can.after on_now.history can.goes_on) followed.later followed.level l l.level in
         record {

@@ -3,6 +3,7 @@ mod Reaching
 mod NodeMoves
 mod TaskMoves
 mod Level
+mod InTime
 mod Events
 mod Reopening
 mod Devices

@@ -1,5 +1,5 @@
 -- What a node's caller does for one event: a step is asked for, appended, synced and handed on; the node is closed; it is opened.
-use Rattle.std.proofs.Common.{◌≡◌, ℕ, ◌+◌, false, Option, Some, Result, Ok, List, [], ◌∷◌, ◌++◌, length, map, take, drop, inl, inr, refl, sym, ap, subst, ◌∙◌, length-append, length-drop, arith}
+use Rattle.std.proofs.Common.{◌≡◌, ℕ, ◌+◌, Bool, false, Option, Some, Result, Ok, List, [], ◌∷◌, ◌++◌, length, map, take, drop, inl, inr, refl, sym, ap, subst, ◌∙◌, length-append, length-drop, arith}
 use Rattle.std.specs.Prelude.{IsSome, nat_lt, replicate, if◌then◌else◌}
 use Rattle.std.specs.List.{AllByRecursion}
 use Rattle.std.proofs.lemmas.List.{append-nil, length-replicate}
@@ -13,7 +13,6 @@ use Rattle.rp_codec.specs.Text.{text_of}
 use Rattle.rp_model.specs.Effect.{NodeInput}
 use Rattle.rp_model.specs.Parts.{Turn, fresh_running, records_in_log}
 use Rattle.rp_model.specs.World.{part_at}
-use Rattle.rp_model.specs.declared.effect.Dropped.TheVariants.{No}
 use Rattle.rp_world.specs.rp_outbox.specs.Packets.{texts_of}
 use Rattle.rp_world.specs.rp_replica.specs.Inputs.{effect_if_given}
 use Rattle.rp_world.specs.rp_store.specs.Disk.{Disk, empty_disk}
@@ -21,12 +20,15 @@ use Rattle.rp_world.specs.rp_store.specs.Records.{AreRecordsOf}
 use Rattle.rp_world.specs.rp_store.proofs.Whole.{are_alone}
 use Rattle.rp_installations.specs.Pending.{noted_by}
 use Rattle.rp_requests.specs.Texts.{step_text, FitsStep}
-use Rattle.rp_requests.specs.Nodes.{NodeState, RequestAnswers, after_step, stored_by, step_bytes}
+use Rattle.rp_requests.specs.Nodes.{NodeState, RequestAnswers, GivenAnswers, after_step, is_at_end, stored_by, step_bytes}
+use Rattle.rp_requests.specs.Timing.{comes_early, comes_late}
+use Rattle.rp_requests.specs.declared.not_taken.NotTaken.TheVariants.{Nothing}
 use Rattle.rp_requests.specs.Requests.{Asked, Step, asked_of}
 use Rattle.rp_requests.specs.declared.buffer.Lengths.{Lengths}
 use Rattle.rp_requests.specs.declared.refusal.Refusal.{Refusal}
 use Rattle.rp_installations.specs.Moves.{AreBytes, IsPacketIn, WasHandedOn, node_receives_byte, AsksSite, HandsOn, noted_if, is_step_made, with_step, site_answered, OpensFrom, AnswersBy, AnsweredRequest, all_given}
 use Rattle.rp_installations.specs.Moves as moves
+use Rattle.rp_installations.proofs.NodeAnswers.{none_left_out}
 use Rattle.rp_installations.specs.Sites.{StepPackets, NodeSite, Installation, closed_over}
 use Rattle.rp_progress_by_handle.specs.ByHandle.{AnswersInPlace}
 use Rattle.rp_progress_by_handle.proofs.Reaching.{NodeReaches, stays, moves_node, node_then}
@@ -67,7 +69,8 @@ opened_node config begin me records texts torn = record {
   stored = [];
   packets = [];
   ends = [];
-  dropped = No;
+  not_taken = Nothing;
+  had_early = false;
 }
 
 module _ {S : Type 0} (next : S → Action → S) (answers : S → Action → List Answer) (image : S → List ℕ) (config : Config) (begin : S) (quorum : List ℕ) (t : ℕ) where
@@ -111,7 +114,7 @@ module _ {S : Type 0} (next : S → Action → S) (answers : S → Action → Li
             counted = refl;
           };
           kept_is = refl;
-          no_step = (refl, refl, refl, refl);
+          no_step = (refl, refl, refl, refl, refl);
         };
       } in
       subst (λ (bytes : List ℕ). Reaches i me (open_site node bytes [] noted) []) (ap (take (length are.texts)) are.whole ∙ take_whole are.texts torn)
@@ -122,12 +125,15 @@ module _ {S : Type 0} (next : S → Action → S) (answers : S → Action → Li
 
   module _ (reads : (input : NodeInput) → FitsStep input → asked_of (step_text input) ≡ Some (Step (Ok input))) where
     module _ (me : ℕ) (has : Has me quorum) (node : NodeState S) (synced : List ℕ) (packets : List StepPackets) (noted : List Action) (input : NodeInput) (turn : Turn)
-        (fits : FitsStep input) (bytes : AreBytes (step_text input)) (effect : effect_if_given next answers node.replica (Ok input) ≡ Ok turn) (each : AllByRecursion IsPacket turn.sent) where
+        (fits : FitsStep input) (bytes : AreBytes (step_text input)) (effect : effect_if_given next answers node.replica (Ok input) ≡ Ok turn) (early : comes_early next answers node.replica (Ok input) ≡ false) (each : AllByRecursion IsPacket turn.sent) where
       abbrev pub site : NodeSite S
       site = open_site node synced packets noted
 
+      abbrev stale : Bool
+      stale = comes_late next answers node.replica (Ok input)
+
       abbrev pub new : NodeState S
-      new = after_step node turn
+      new = after_step node stale turn
 
       abbrev stored : List ℕ
       stored = stored_by turn.written
@@ -146,7 +152,8 @@ module _ {S : Type 0} (next : S → Action → S) (answers : S → Action → Li
           let exchange : AnsweredRequest = record { request = step_text input; before = buffer; after = front ++ drop (length front) buffer; result = result } in
           let read = reads input fits in
           let answer : RequestAnswers next answers image (Some (Step (Ok input))) node new buffer exchange.after result =
-          record { room = omega (arith, long); turn = turn; takes = effect; goes = refl; put = record { front = refl; stored_is = refl; used_is = refl } } in
+          subst (λ (b : Bool). GivenAnswers b (effect_if_given next answers node.replica (Ok input)) (is_at_end node.replica (Ok input)) stale node new buffer exchange.after result) (sym early)
+          (record { room = omega (arith, long); turn = turn; takes = effect; goes = refl; put = record { front = refl; stored_is = refl; used_is = refl } }) in
           let asks : AsksSite config.nodes (OpensFrom next answers image config begin) (AnswersInPlace next answers image config begin) i.handed_on site asked_site = record {
             exchange = exchange;
             old = node;
@@ -158,7 +165,7 @@ module _ {S : Type 0} (next : S → Action → S) (answers : S → Action → Li
               subst (λ (a : Option Asked). RequestAnswers next answers image a node new buffer exchange.after result) (sym read) answer,
               omega (arith, long, length-append front (drop (length front) buffer), length-drop (length front) buffer),
             );
-            goes = sym (ap (λ (a : Option Asked). site_answered site new (noted_if a) (is_step_made a result)) read);
+            goes = sym (ap (λ (a : Option Asked). site_answered site new (noted_if a) (is_step_made a result new.not_taken)) read ∙ ap (site_answered site new (noted_by input)) (none_left_out stale turn.dropped));
           } in
           moves_node next answers image config begin quorum t i me site asked_site [] has here (moves.NodeMove.Requested asks refl)
 

@@ -16,6 +16,7 @@ ghost use Rattle.rp_progress.specs.Waiting.{IsQuorum, IsPositionLeft, AreBallots
 ghost use Rattle.rp_progress_by_handle.specs.ByHandle.{AreOnDevices, IsTaskAt, IsIdleAt, HasLost};
 ghost use Rattle.rp_progress_by_handle.specs.ByHandle.{CanCountByHandle, CanBeAnsweredByHandle};
 
+use rp_agreement::replies_follow_the_order;
 use rp_installations::histories_keep_ranges;
 use rp_machine::Machine;
 use rp_progress::{a_task_can_go_on, a_waiting_call_can_count};
@@ -45,6 +46,8 @@ pub fn a_call_by_handle_can_count<M: Machine>()
         calls.made replies after }
 {
     a_waiting_call_can_count::<M>();
+    replies_follow_the_order::<M>();
+    M::laws();
     histories_keep_ranges::<M>();
     node_requests_are_read_back();
     task_requests_are_read_back();
@@ -94,6 +97,8 @@ pub fn a_task_by_handle_can_go_on<M: Machine>()
         (suc calls.made) replies after }
 {
     a_task_can_go_on::<M>();
+    replies_follow_the_order::<M>();
+    M::laws();
     histories_keep_ranges::<M>();
     node_requests_are_read_back();
     task_requests_are_read_back();

@@ -5,7 +5,7 @@ use Rattle.std.specs.Int.{w32, from_be_bytes}
 use Rattle.std.proofs.lemmas.Bool.{ne_eqb}
 use Rattle.std.proofs.lemmas.Bool.Decides.{nat_tests}
 use Rattle.rp_model.specs.Effect as inputs
-use Rattle.rp_requests.specs.Requests.{Asked, Applied, Image, LastAnswer, Left, Pending, Counted, given, question_asked, asked_of_kind, asked_of}
+use Rattle.rp_requests.specs.Requests.{Asked, Applied, Image, LastAnswer, Left, Pending, Counted, Occurred, given, question_asked, asked_of_kind, asked_of}
 
 -- a number that is 0 or above a bound is not from 1 to it
 pub outside : (n most : ℕ) → (n ≡ 0) ⊎ (most < n) → (nat_le 1 n && nat_le n most) ≡ false
@@ -69,6 +69,12 @@ counted [] other = refl
 counted (a ∷ []) other = absurd (other refl)
 counted (a ∷ b ∷ rest) other = refl
 
+pub occurred : (operands : List ℕ) → length operands ≢ 1 → asked_of (22 ∷ operands) ≡ None
+unfolding asked_of asked_of_kind
+occurred [] other = refl
+occurred (a ∷ []) other = absurd (other refl)
+occurred (a ∷ b ∷ rest) other = refl
+
 pub source : (number a b c d : ℕ) → (number ≡ 0) ⊎ (8 < number) → asked_of (3 ∷ number ∷ a ∷ b ∷ c ∷ d ∷ []) ≡ None
 unfolding asked_of asked_of_kind
 source number a b c d none =
@@ -82,6 +88,10 @@ node number none = ap (λ (t : Bool). cond {A = Option Asked} t (given (inputs.N
 pub task : (number : ℕ) → (number ≡ 0) ⊎ (8 < number) → asked_of (21 ∷ number ∷ []) ≡ None
 unfolding asked_of asked_of_kind
 task number none = ap (λ (t : Bool). cond {A = Option Asked} t (Some (Counted number)) None) (outside number 8 none)
+
+pub source_asked : (number : ℕ) → (number ≡ 0) ⊎ (8 < number) → asked_of (22 ∷ number ∷ []) ≡ None
+unfolding asked_of asked_of_kind
+source_asked number none = ap (λ (t : Bool). cond {A = Option Asked} t (Some (Occurred number)) None) (outside number 8 none)
 
 -- no bytes ask for nothing
 pub empty_is : asked_of [] ≡ None
@@ -104,24 +114,24 @@ module _ (kind : ℕ) where
       ∙ ap (λ b. tested (Some Pending) b None) (apart 20 (omega arith) (omega arith))
 
   -- the other kinds are passed over
-  passes : (operands : List ℕ) → ((n : ℕ) → 1 ≤ n → n ≤ 7 → (kind == n) ≡ false) → (kind == 21) ≡ false → asked_of (kind ∷ operands) ≡ question_asked kind operands
+  passes : (operands : List ℕ) → ((n : ℕ) → 1 ≤ n → n ≤ 7 → (kind == n) ≡ false) → (kind == 21) ≡ false → (kind == 22) ≡ false → asked_of (kind ∷ operands) ≡ question_asked kind operands
   unfolding asked_of asked_of_kind
-  passes operands apart last = simp (apart 1 (omega arith) (omega arith), apart 2 (omega arith) (omega arith), apart 3 (omega arith) (omega arith), apart 4 (omega arith) (omega arith), apart 5 (omega arith) (omega arith), apart 6 (omega arith) (omega arith), apart 7 (omega arith) (omega arith), last)
+  passes operands apart last one_more = simp (apart 1 (omega arith) (omega arith), apart 2 (omega arith) (omega arith), apart 3 (omega arith) (omega arith), apart 4 (omega arith) (omega arith), apart 5 (omega arith) (omega arith), apart 6 (omega arith) (omega arith), apart 7 (omega arith) (omega arith), last, one_more)
 
-pub kinds : (kind : ℕ) → (kind ≡ 0) ⊎ ((7 < kind) × (kind < 16)) ⊎ (21 < kind) → (operands : List ℕ) → asked_of (kind ∷ operands) ≡ None
+pub kinds : (kind : ℕ) → (kind ≡ 0) ⊎ ((7 < kind) × (kind < 16)) ⊎ (22 < kind) → (operands : List ℕ) → asked_of (kind ∷ operands) ≡ None
 kinds kind none operands =
-    passes kind operands (λ n low high. ne_eqb kind n (λ same. low_apart n low high same none)) (ne_eqb kind 21 (λ same. high_apart 21 (omega arith) (omega arith) same none))
+    passes kind operands (λ n low high. ne_eqb kind n (λ same. low_apart n low high same none)) (ne_eqb kind 21 (λ same. high_apart 21 (omega arith) (omega arith) same none)) (ne_eqb kind 22 (λ same. high_apart 22 (omega arith) (omega arith) same none))
     ∙ none_asked kind operands (λ n low high. ne_eqb kind n (λ same. high_apart n low (omega (arith, high)) same none))
   where
-    low_apart : (n : ℕ) → 1 ≤ n → n ≤ 7 → kind ≡ n → (kind ≡ 0) ⊎ ((7 < kind) × (kind < 16)) ⊎ (21 < kind) → ⊥
+    low_apart : (n : ℕ) → 1 ≤ n → n ≤ 7 → kind ≡ n → (kind ≡ 0) ⊎ ((7 < kind) × (kind < 16)) ⊎ (22 < kind) → ⊥
     low_apart n low high same (inl zero) = omega arith
     low_apart n low high same (inr (inl between)) = omega (arith, between.0)
     low_apart n low high same (inr (inr above)) = omega arith
 
-    high_apart : (n : ℕ) → 16 ≤ n → n ≤ 21 → kind ≡ n → (kind ≡ 0) ⊎ ((7 < kind) × (kind < 16)) ⊎ (21 < kind) → ⊥
+    high_apart : (n : ℕ) → 16 ≤ n → n ≤ 22 → kind ≡ n → (kind ≡ 0) ⊎ ((7 < kind) × (kind < 16)) ⊎ (22 < kind) → ⊥
     high_apart n low high same (inl zero) = omega arith
     high_apart n low high same (inr (inl between)) = omega (arith, between.1)
     high_apart n low high same (inr (inr above)) = omega arith
 
 pub questions : (kind more : ℕ) (rest : List ℕ) → 16 ≤ kind → kind ≤ 20 → asked_of (kind ∷ more ∷ rest) ≡ None
-questions kind more rest low high = passes kind (more ∷ rest) (λ n above below. ne_eqb kind n (λ same. omega arith)) (ne_eqb kind 21 (λ same. omega arith))
+questions kind more rest low high = passes kind (more ∷ rest) (λ n above below. ne_eqb kind n (λ same. omega arith)) (ne_eqb kind 21 (λ same. omega arith)) (ne_eqb kind 22 (λ same. omega arith))

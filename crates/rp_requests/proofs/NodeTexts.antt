@@ -16,8 +16,8 @@ use Rattle.rp_codec.proofs.Decoded.{whole_again}
 use Rattle.rp_model.specs.Effect.{NodeInput}
 use Rattle.rp_model.specs.Effect as inputs
 use Rattle.rp_replica.specs.rp_rules.specs.Inputs.{packet_given}
-use Rattle.rp_requests.specs.Requests.{Asked, Step, Applied, Image, LastAnswer, Left, given, lead_at, interrupt_if_right, tick_asked, report_from, range_if, range_from, ask_to, asked_of_kind, asked_of, Pending, Counted}
-use Rattle.rp_requests.specs.Texts.{step_text, FitsStep, applied_text, image_text, last_answer_text, left_text, pending_text, counted_text}
+use Rattle.rp_requests.specs.Requests.{Asked, Step, Applied, Image, LastAnswer, Left, given, lead_at, interrupt_if_right, tick_asked, report_from, range_if, range_from, ask_to, asked_of_kind, asked_of, Pending, Counted, Occurred}
+use Rattle.rp_requests.specs.Texts.{step_text, FitsStep, applied_text, image_text, last_answer_text, left_text, pending_text, counted_text, occurred_text}
 
 -- ---- tests
 
@@ -113,3 +113,8 @@ pub counted_is : (task : ℕ) → IsTask task → asked_of (counted_text task) �
 unfolding asked_of asked_of_kind
 counted_is task right =
     ap (λ b. cond {A = Option Asked} b (Some (Counted task)) None) (both (nat_le 1 task) (nat_le task 8) (from_one task right.0) (up_to task 8 right.1))
+
+pub occurred_is : (source : ℕ) → IsIndex source → asked_of (occurred_text source) ≡ Some (Occurred source)
+unfolding asked_of asked_of_kind
+occurred_is source right =
+    ap (λ b. cond {A = Option Asked} b (Some (Occurred source)) None) (both (nat_le 1 source) (nat_le source 8) (from_one source right.0) (up_to source 8 right.1))

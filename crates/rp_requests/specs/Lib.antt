@@ -1,6 +1,7 @@
 pub mod Refusals
 pub mod Buffers
 pub mod Requests
+pub mod Timing
 pub mod Nodes
 pub mod Advising
 pub mod Opening

@@ -3,6 +3,7 @@ use Rattle.std.specs.Prelude.{ℕ, ◌&&◌, nat_le, ◌==◌, Option, Some, Non
 use Rattle.std.specs.Prelude.{◌∷◌, if◌then◌else◌}
 use Rattle.std.specs.Int.{w16, w32, from_be_bytes}
 use Rattle.rp_base.specs.declared.fault.Fault.{Fault}
+use Rattle.rp_base.specs.Action.{IsIndex}
 use Rattle.rp_base.specs.Number.{in_range}
 use Rattle.rp_base.specs.Ranges.{Range, range_of}
 use Rattle.rp_codec.specs.Reading.{all_of}
@@ -14,8 +15,8 @@ use Rattle.rp_requests.specs.declared.request.Request.TheVariants as requests
 
 -- A step, with the node's input, or the reason for which the bytes of its packet are none; how many
 -- actions are applied; the lines that show the objects; the answer of the last step; how many
--- positions are left; how many pending items are free; or the number of a task's last call that
--- counted.
+-- positions are left; how many pending items are free; the number of a task's last call that
+-- counted; or the last occurrence of a source that counted.
 pub data Asked : Type 0 where
   Step : Result NodeInput Fault → Asked
   Applied : Asked
@@ -24,6 +25,7 @@ pub data Asked : Type 0 where
   Left : Asked
   Pending : Asked
   Counted : ℕ → Asked
+  Occurred : ℕ → Asked
 
 -- what a request asks for
 abbrev pub asked : Request → Asked
@@ -34,6 +36,7 @@ asked requests.LastAnswer = LastAnswer
 asked requests.Left = Left
 asked requests.Pending = Pending
 asked (requests.Counted task) = Counted task
+asked (requests.Occurred source) = Occurred source
 
 abbrev pub IsRightRequest : Request → Type 0
 IsRightRequest (requests.Step input) = IsRightInput input
@@ -43,6 +46,7 @@ IsRightRequest requests.LastAnswer = Unit {0}
 IsRightRequest requests.Left = Unit {0}
 IsRightRequest requests.Pending = Unit {0}
 IsRightRequest (requests.Counted task) = Unit {0}
+IsRightRequest (requests.Occurred source) = IsIndex source
 
 abbrev pub given : NodeInput → Option Asked
 given input = Some (Step (Ok input))
@@ -99,6 +103,11 @@ abbrev pub counted_asked : List ℕ → Option Asked
 counted_asked (task ∷ []) = if nat_le 1 task && nat_le task 8 then Some (Counted task) else None
 counted_asked _ = None
 
+abbrev pub occurred_asked : List ℕ → Option Asked
+occurred_asked (source ∷ []) =
+    if nat_le 1 source && nat_le source 8 then Some (Occurred source) else None
+occurred_asked _ = None
+
 abbrev pub question_asked : ℕ → List ℕ → Option Asked
 question_asked kind [] =
     if kind == 16 then Some Applied
@@ -120,6 +129,7 @@ asked_of_kind kind operands =
     else if kind == 6 then range_asked operands
     else if kind == 7 then ask_asked operands
     else if kind == 21 then counted_asked operands
+    else if kind == 22 then occurred_asked operands
     else question_asked kind operands
 
 unfoldable pub asked_of : List ℕ → Option Asked

@@ -60,6 +60,10 @@ pending_text = 20 ∷ []
 abbrev pub counted_text : ℕ → List ℕ
 counted_text task = 21 ∷ task ∷ []
 
+-- RP_NODE_OCCURRED
+abbrev pub occurred_text : ℕ → List ℕ
+occurred_text source = 22 ∷ source ∷ []
+
 -- RP_FUNCTION 1, RP_PROCEDURE 2, RP_ENTRY 3, RP_SET_TIMER 4, RP_CANCEL_TIMER 5, and the index
 abbrev pub operation_bytes : Operation → List ℕ
 operation_bytes (Function index) = 1 ∷ index ∷ []

@@ -7,7 +7,9 @@
 //! - `buffer`: answers that are put into a caller's buffer
 //! - `tail`: what a device holds after its whole records
 //! - `opening`: a node that is opened over a caller's bytes
+//! - `not_taken`: what a step of a node did not take
 //! - `node`: a node that answers requests
+//! - `timing`: calls that cannot count at a node yet, and interrupts that are over
 //! - `questions`: what it answers about its pending items and its tasks, and what it is to do next
 //! - `ended`: what a station asks of a node whose log has ended
 //! - `task_request`: a caller's request to a task, as bytes
@@ -19,6 +21,7 @@
 mod buffer;
 mod ended;
 mod node;
+mod not_taken;
 mod opening;
 mod questions;
 mod refusal;
@@ -28,9 +31,11 @@ mod request_texts;
 mod tail;
 mod task;
 mod task_request;
+mod timing;
 
 pub use buffer::Lengths;
 pub use node::{HandleNode, STEP_BYTES};
+pub use not_taken::NotTaken;
 pub use opening::Opened;
 pub use refusal::Refusal;
 pub use refused_texts::{no_other_text_is_a_node_request, no_other_text_is_a_task_request};

@@ -1,20 +1,21 @@
 //! A node that answers requests.
 
-ghost use Rattle.std.specs.Prelude.{◌≡◌, [], ◌∷◌, length, Some, IfErr, OnErr, OnOk};
+ghost use Rattle.std.specs.Prelude.{◌≡◌, ◌≤◌, ◌&&◌, nat_eq, [], ◌∷◌, length, false, Some, IfErr, OnErr, OnOk};
 ghost use Rattle.rp_replica.specs.Inputs.{input_effect};
 ghost use Rattle.rp_replica.specs.Turning.{StopsIf};
 ghost use Rattle.rp_replica.specs.rp_rules.specs.Inputs.{IsRightInput, given_by};
-ghost use Rattle.rp_replica.specs.rp_model.specs.declared.effect.Dropped.TheVariants.{No};
 ghost use Rattle.rp_requests.specs.Buffers.{Puts, PutsOr, with_front};
-ghost use Rattle.rp_requests.specs.Nodes.{RequestAnswers, ImageAnswers, StepAnswers, StepMade, image_of, is_at_end, positions_left, step_refusal};
+ghost use Rattle.rp_requests.specs.Nodes.{RequestAnswers, GivenAnswers, ImageAnswers, StepAnswers, StepMade, after_early, image_of, is_at_end, positions_left, step_refusal};
+ghost use Rattle.rp_requests.specs.Timing.{comes_early, comes_late};
+ghost use Rattle.rp_requests.specs.declared.not_taken.NotTaken.TheVariants.{Nothing};
 ghost use Rattle.rp_requests.specs.Requests.{IsRightRequest, asked, asked_of};
 
 use crate::buffer::{Lengths, put, put_front, put_parts};
+use crate::not_taken::NotTaken;
 use crate::refusal::Refusal;
 use crate::request::{Request, request_of};
 use rp_base::{Config, Fault};
 use rp_machine::Machine;
-use rp_model::Dropped;
 use rp_outbox::Outbox;
 use rp_replica::{Input, Replica};
 use rp_store::MemDevice;
@@ -39,7 +40,9 @@ pub struct HandleNode<M: Machine> {
     /// The packets of the last step.
     last_packets: Outbox,
     /// What the node did not take in the last step.
-    last_dropped: Dropped,
+    not_taken: NotTaken,
+    /// Whether a call came that could not count, and the node has applied nothing since.
+    pub(crate) had_early: bool,
     /// Where the packets of the next step are put, in the memory of those of an earlier one.
     next_packets: Outbox,
 }
@@ -56,7 +59,8 @@ impl<M: Machine> Model for HandleNode<M> {
       stored = drop n.last_record n.replica.disk.contents;
       packets = texts_of n.last_packets.sent;
       ends = ends_of 0 n.last_packets.sent;
-      dropped = n.last_dropped;
+      not_taken = n.not_taken;
+      had_early = n.had_early;
     } };
 
     ghost invariant = { λ n. (n.last_record ≤ length n.replica.disk.contents)
@@ -72,7 +76,8 @@ impl<M: Machine> HandleNode<M> {
           stored = [];
           packets = [];
           ends = [];
-          dropped = No;
+          not_taken = Nothing;
+          had_early = false;
         } }
     {
         let last_record = replica.stored() as usize;
@@ -81,7 +86,8 @@ impl<M: Machine> HandleNode<M> {
             positions: config.max_positions,
             last_record,
             last_packets: Outbox::new(alloc),
-            last_dropped: Dropped::No,
+            not_taken: NotTaken::Nothing,
+            had_early: false,
             next_packets: Outbox::new(alloc),
         }
     }
@@ -151,6 +157,7 @@ impl<M: Machine> HandleNode<M> {
             Request::Left => put(&self.left().to_be_bytes(), answer),
             Request::Pending => put(&self.free_pending().to_be_bytes(), answer),
             Request::Counted(task) => self.put_counted(*task, answer),
+            Request::Occurred(source) => self.put_occurred(*source, answer),
         }
     }
 
@@ -170,7 +177,8 @@ impl<M: Machine> HandleNode<M> {
         self.step(alloc, &Input::Receive(packet), answer)
     }
 
-    /// Makes a step.
+    /// Makes a step. A call that cannot count now is not taken: nothing happens, as if its packet
+    /// were lost.
     #[inline(always)]
     fn step(
         &mut self,
@@ -179,13 +187,37 @@ impl<M: Machine> HandleNode<M> {
         answer: &mut [u8],
     ) -> Result<Lengths, Refusal>
         requires { IsRightInput input.now }
-        ensures { StepAnswers (input_effect M.next M.answers self.old.replica input.now)
+        ensures { GivenAnswers (comes_early M.next M.answers self.old.replica (given_by input.now))
+            (input_effect M.next M.answers self.old.replica input.now)
             (is_at_end self.old.replica (given_by input.now))
+            (comes_late M.next M.answers self.old.replica (given_by input.now))
             self.old self.new answer.old answer.new result }
     {
         if answer.len() < STEP_BYTES {
             return Err(Refusal::ShortAnswer(STEP_BYTES));
         }
+        if self.comes_early(alloc, input) {
+            self.pass_over();
+            return Ok(Lengths { stored: 0, used: 0 });
+        }
+        self.take(alloc, input, answer)
+    }
+
+    /// Makes a step that takes what comes.
+    #[inline(always)]
+    fn take(
+        &mut self,
+        alloc: Global,
+        input: &Input<'_>,
+        answer: &mut [u8],
+    ) -> Result<Lengths, Refusal>
+        requires right { IsRightInput input.now }
+        requires room { 8192 ≤ length answer.old }
+        ensures { StepAnswers (input_effect M.next M.answers self.old.replica input.now)
+            (is_at_end self.old.replica (given_by input.now))
+            (comes_late M.next M.answers self.old.replica (given_by input.now))
+            self.old self.new answer.old answer.new result }
+    {
         match self.turn(alloc, input) {
             Ok(()) => match self.put_last(answer) {
                 Ok(lengths) => Ok(lengths),
@@ -195,18 +227,31 @@ impl<M: Machine> HandleNode<M> {
         }
     }
 
+    /// Takes no call that cannot count now: there is nothing to store and nothing to send.
+    fn pass_over(&mut self)
+        ensures { self.new ≡ after_early self.old }
+    {
+        self.last_record = self.replica.stored() as usize;
+        self.last_packets.clear();
+        self.not_taken = NotTaken::Early;
+        self.had_early = true;
+    }
+
     /// Makes a step of which no answer is put into a buffer yet.
     #[inline(always)]
     fn turn(&mut self, alloc: Global, input: &Input<'_>) -> Result<(), Fault>
         requires { IsRightInput input.now }
         ensures ok { OnOk result (StepMade
-            (input_effect M.next M.answers self.old.replica input.now) self.old self.new) }
+            (input_effect M.next M.answers self.old.replica input.now)
+            (comes_late M.next M.answers self.old.replica (given_by input.now)) self.old self.new) }
         ensures same { OnErr result (self.new ≡ self.old) }
         ensures err { IfErr result (λ fault. StopsIf
             (input_effect M.next M.answers self.old.replica input.now)
             self.old.replica self.old.replica fault) }
     {
+        let stale = self.comes_late(input);
         let before = self.replica.stored() as usize;
+        let applied = self.replica.applied();
         self.next_packets.clear();
         let turned = self.replica.turn_into(alloc, &mut self.next_packets, input);
         self.replica.never_failed();
@@ -214,7 +259,8 @@ impl<M: Machine> HandleNode<M> {
             Ok(dropped) => {
                 swap(&mut self.last_packets, &mut self.next_packets);
                 self.last_record = before;
-                self.last_dropped = dropped;
+                self.not_taken = NotTaken::of(stale, dropped);
+                self.had_early = is_still(self.had_early, self.replica.applied(), applied);
                 Ok(())
             }
             Err(fault) => Err(fault),
@@ -253,11 +299,11 @@ impl<M: Machine> HandleNode<M> {
     }
 
     /// What the node did not take in the last step.
-    pub fn dropped(&self) -> Dropped
+    pub fn not_taken(&self) -> NotTaken
         // claim: A caller learns what a step of its node did not take
-        ensures { result ≡ self.now.dropped }
+        ensures { result ≡ self.now.not_taken }
     {
-        self.last_dropped
+        self.not_taken
     }
 
     /// Puts the answer of the last step into the buffer, if it fits; otherwise returns its length.
@@ -290,6 +336,13 @@ fn step_refusal(fault: Fault, at_end: bool) -> Refusal
         Fault::LogFull if !at_end => Refusal::TooFar,
         _ => Refusal::Fault(fault),
     }
+}
+
+/// Whether what was so still is, where nothing was applied since.
+fn is_still(so: bool, applied: u32, before: u32) -> bool
+    ensures { result ≡ (so && nat_eq applied before) }
+{
+    so && applied == before
 }
 
 /// The bytes of a replica's device, in place.

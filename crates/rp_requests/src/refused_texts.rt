@@ -10,7 +10,7 @@ pub fn no_other_text_is_a_node_request()
     // claim: Bytes of another kind or length than a request to a node has ask for nothing
     ensures empty { asked_of [] ≡ None }
     ensures kinds { (kind : ℕ) (operands : List ℕ)
-        → (kind ≡ 0) ⊎ ((7 < kind) × (kind < 16)) ⊎ (21 < kind)
+        → (kind ≡ 0) ⊎ ((7 < kind) × (kind < 16)) ⊎ (22 < kind)
         → asked_of (kind ∷ operands) ≡ None }
     ensures lead { (operands : List ℕ) → length operands ≢ 0 → length operands ≢ 2
         → asked_of (2 ∷ operands) ≡ None }
@@ -22,12 +22,16 @@ pub fn no_other_text_is_a_node_request()
     ensures ask { (operands : List ℕ) → length operands ≢ 1 → asked_of (7 ∷ operands) ≡ None }
     ensures counted { (operands : List ℕ) → length operands ≢ 1
         → asked_of (21 ∷ operands) ≡ None }
+    ensures occurred { (operands : List ℕ) → length operands ≢ 1
+        → asked_of (22 ∷ operands) ≡ None }
     ensures questions { (kind more : ℕ) (rest : List ℕ) → 16 ≤ kind → kind ≤ 20
         → asked_of (kind ∷ more ∷ rest) ≡ None }
     ensures source { (source a b c d : ℕ) → (source ≡ 0) ⊎ (8 < source)
         → asked_of (3 ∷ source ∷ a ∷ b ∷ c ∷ d ∷ []) ≡ None }
     ensures node { (node : ℕ) → (node ≡ 0) ⊎ (7 < node) → asked_of (7 ∷ node ∷ []) ≡ None }
     ensures task { (task : ℕ) → (task ≡ 0) ⊎ (8 < task) → asked_of (21 ∷ task ∷ []) ≡ None }
+    ensures source_asked { (source : ℕ) → (source ≡ 0) ⊎ (8 < source)
+        → asked_of (22 ∷ source ∷ []) ≡ None }
 {}
 
 /// Bytes of no kind, or of another length than the requests of their kind have, ask for nothing, and

@@ -4,7 +4,7 @@
 ghost use Rattle.std.specs.Prelude.{◌≡◌, ◌∷◌, [], Some, None, IfSome, IfNone, option_map};
 ghost use Rattle.std.specs.Int.{w16, from_be_bytes};
 ghost use Rattle.rp_base.specs.Number.{IsPosition};
-ghost use Rattle.rp_requests.specs.Requests.{asked, asked_of, lead_asked, interrupt_asked, tick_asked, report_asked, range_asked, ask_asked, IsRightRequest, counted_asked};
+ghost use Rattle.rp_requests.specs.Requests.{asked, asked_of, lead_asked, interrupt_asked, tick_asked, report_asked, range_asked, ask_asked, IsRightRequest, counted_asked, occurred_asked};
 
 use rp_base::{MOST_SOURCES, NodeId, Position, PositionRange, TaskId};
 use rp_replica::Input;
@@ -24,6 +24,8 @@ pub(crate) enum Request<'a> {
     Pending,
     /// The number of a task's last call that counted.
     Counted(TaskId),
+    /// The last occurrence of a source, 1 to 8, that counted.
+    Occurred(u8),
     /// The answer of the last step that was made.
     LastAnswer,
 }
@@ -49,6 +51,7 @@ pub(crate) fn request_of(bytes: &[u8]) -> Option<Request<'_>>
         19 if operands.is_empty() => Some(Request::Left),
         20 if operands.is_empty() => Some(Request::Pending),
         21 => last_counted_of(operands),
+        22 => last_occurred_of(operands),
         _ => None,
     }
 }
@@ -147,6 +150,20 @@ fn last_counted_of(operands: &[u8]) -> Option<Request<'static>>
     };
     let task = TaskId::new(*task)?;
     Some(Request::Counted(task))
+}
+
+/// The question for the last occurrence that counted: the source, 1 to 8, in one byte.
+fn last_occurred_of(operands: &[u8]) -> Option<Request<'static>>
+    ensures asked { option_map asked result ≡ occurred_asked operands.now }
+    ensures right { IfSome result IsRightRequest }
+{
+    let [source] = operands else {
+        return None;
+    };
+    if *source < 1 || *source > MOST_SOURCES {
+        return None;
+    }
+    Some(Request::Occurred(*source))
 }
 
 /// The position in these two bytes.

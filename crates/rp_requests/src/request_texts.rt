@@ -6,9 +6,10 @@ ghost use Rattle.rp_base.specs.declared.fault.Fault.TheVariants.{BadPacket};
 ghost use Rattle.rp_base.specs.declared.fault.PacketReason.{PacketReason};
 ghost use Rattle.rp_codec.specs.Reading.{all_of};
 ghost use Rattle.rp_model.specs.Effect.{NodeInput};
-ghost use Rattle.rp_requests.specs.Requests.{Step, Applied, Image, LastAnswer, Left, Pending, Counted, asked_of};
+ghost use Rattle.rp_base.specs.Action.{IsIndex};
+ghost use Rattle.rp_requests.specs.Requests.{Step, Applied, Image, LastAnswer, Left, Pending, Counted, Occurred, asked_of};
 ghost use Rattle.rp_requests.specs.TaskRequests.{TaskAsked, task_asked_of};
-ghost use Rattle.rp_requests.specs.Texts.{step_text, FitsStep, applied_text, image_text, last_answer_text, left_text, pending_text, counted_text, task_request_text, FitsTaskRequest};
+ghost use Rattle.rp_requests.specs.Texts.{step_text, FitsStep, applied_text, image_text, last_answer_text, left_text, pending_text, counted_text, occurred_text, task_request_text, FitsTaskRequest};
 
 /// The text of each step of a node asks for that step, and that of each question for that answer.
 /// A packet that came and is none asks for the refusal with its reason.
@@ -25,6 +26,8 @@ pub fn node_requests_are_read_back()
     ensures pending { asked_of pending_text ≡ Some Pending }
     ensures counted { (task : ℕ) → IsTask task
         → asked_of (counted_text task) ≡ Some (Counted task) }
+    ensures occurred { (source : ℕ) → IsIndex source
+        → asked_of (occurred_text source) ≡ Some (Occurred source) }
 {}
 
 /// The text of each request to a task asks for that: a call of a function is not one of a procedure,

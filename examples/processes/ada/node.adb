@@ -21,7 +21,6 @@ procedure Node with Priority => 10 is
    use Ada.Command_Line;
    use Ada.Real_Time;
    use type Interfaces.C.size_t;
-   use type Interfaces.Unsigned_32;
    use type RP.Byte;
 
    Batch        : constant := 64;
@@ -139,69 +138,25 @@ procedure Node with Priority => 10 is
       Keep (RP.Node_Ask (Handle, Asked, Answer, Ends, Made));
    end Ask_Another;
 
-   Window         : constant := 64;
-   Asked_At       : Time := Clock - Seconds (1);
-   Applied_Before : Interfaces.Unsigned_32 := 0;
-
-   --  Whether it is time to ask, though the node may not know that it misses something: it was away, or the last
-   --  question brought a whole window, so there may be more.
-   function Is_To_Ask (Now : Time) return Boolean is
-      Applied : Interfaces.Unsigned_32 := 0;
-      Ignore  : constant RP.Status := RP.Node_Applied (Handle, Applied);
-   begin
-      if Now - Asked_At < Seconds (1) and then Applied < Applied_Before + Window then
-         return False;
-      end if;
-      Asked_At := Now;
-      Applied_Before := Applied;
-      return True;
-   end Is_To_Ask;
-
-   Led : Interfaces.Unsigned_32 := 0;  --  where this node led last
-
-   procedure Lead (Position : Interfaces.Unsigned_32) is
-   begin
-      Keep (RP.Node_Lead_At (Handle, Interfaces.Unsigned_16 (Position), Answer, Ends, Made));
-      Led := Position;
-   end Lead;
-
-   --  A node that led last, and whose position was decided, leads at once for what is pending: it need not wait.
-   function Leads_On return Boolean is
-      Applied, Pending : Interfaces.Unsigned_32 := 0;
-      Known            : constant Boolean :=
-        RP.Node_Applied (Handle, Applied) = RP.Done and then RP.Node_Pending (Handle, Pending) = RP.Done;
-   begin
-      if not Known or else Led = 0 or else Applied < Led or else Pending = 0 then
-         return False;
-      end if;
-      Lead (Applied + 1);
-      return True;
-   end Leads_On;
-
    Before : Time := Clock;
 
-   --  Leads or asks, if it is time to; a turn of the node's patience is a millisecond.
-   procedure Lead_Or_Ask is
+   --  Does what the advice says, until it says nothing; a turn of the node's patience is a millisecond.
+   procedure Do_What_Is_Advised is
       Now    : constant Time := Clock;
-      Passed : constant Natural := Natural ((Now - Before) / Milliseconds (1));
+      Passed : Natural := Natural ((Now - Before) / Milliseconds (1));
       Advice : RP.Advice;
    begin
       Before := Before + Milliseconds (Passed);
-      if Is_To_Ask (Now) then
-         Ask_Another;
-      end if;
-      if Leads_On then
-         return;
-      end if;
-      if RP.Node_Advise (Handle, Patience, Interfaces.Unsigned_64 (Passed), Advice) /= RP.Done then
-         return;
-      end if;
-      case Advice.Kind is
-         when RP.Advice_Lead => Lead (Interfaces.Unsigned_32 (Advice.Position));
-         when RP.Advice_Ask  => Ask_Another;
-         when others         => null;
-      end case;
-   end Lead_Or_Ask;
+      loop
+         exit when RP.Node_Advise (Handle, Patience, Interfaces.Unsigned_64 (Passed), Advice) /= RP.Done;
+         case Advice.Kind is
+            when RP.Advice_Lead => Keep (RP.Node_Lead_At (Handle, Advice.Position, Answer, Ends, Made));
+            when RP.Advice_Ask  => Ask_Another;
+            when others         => exit;
+         end case;
+         Passed := 0;
+      end loop;
+   end Do_What_Is_Advised;
 
 begin
    if Argument (5) = "init" then
@@ -212,7 +167,7 @@ begin
    Udp.Open (Link, Argument (1), Me, Number (5), Number (if Argument_Count > 5 then 6 else 5));
    loop
       Receive_Packets;
-      Lead_Or_Ask;
+      Do_What_Is_Advised;
       Store_Records;    --  RULE 1: what the steps gave is synced ..
       Hand_On_Packets;  --  .. before a packet of theirs leaves
       Device.Put_Next_Deck (Handle, Deck, Argument (4));

@@ -14,7 +14,7 @@
 
 #include "udp.h"
 
-enum { BATCH = 64, WAIT_MS = 2, MOST_PACKETS = 128, ASK_MS = 1000, WINDOW = 64, AHEAD = 16, IN_FLIGHT = 8 };
+enum { BATCH = 64, WAIT_MS = 2, MOST_PACKETS = 128, WINDOW = 64, AHEAD = 16 };
 
 /* Packets one after another, and where each ends. */
 struct packets {
@@ -105,18 +105,6 @@ static void ask_another(void) {
   keep(rp_node_ask(&node, asked, &room));
 }
 
-/* Whether it is time to ask, though the node may not know that it misses something: it was away, or the last question brought
- * a whole window, so there may be more. */
-static bool is_to_ask(uint64_t now) {
-  static uint64_t asked;
-  static uint32_t before;
-  uint32_t applied = 0;
-  (void)rp_node_applied(&node, &applied);
-  if (now - asked < ASK_MS && applied < before + WINDOW) return false;
-  asked = now, before = applied;
-  return true;
-}
-
 static bool with_ranges;
 static uint32_t led, asked_to; /* where this node led last, and where the range that it asked for last ends */
 
@@ -144,29 +132,18 @@ static void lead(uint32_t position) {
   ask_ahead();
 }
 
-/* A node that led last, and whose position was decided, leads at once for what is pending: it need not wait. With `ranges` it
- * does not wait for the decision either, and leads for each pending item at the next position. A proposal that is lost leaves
- * a gap, where the advice leads again after its wait; so a node is not further ahead than tasks have calls, one each. */
-static bool leads_on(void) {
-  uint32_t applied = 0, pending = 0, last = last_of(with_ranges ? IN_FLIGHT : 1);
-  (void)rp_node_applied(&node, &applied);
-  (void)rp_node_pending(&node, &pending);
-  if (led == 0 || led >= last || pending == 0) return false;
-  for (; pending > 0 && led < last; pending--) lead((led > applied ? led : applied) + 1);
-  return true;
-}
-
-/* Leads or asks, if it is time to; a turn of the node's patience is a millisecond. */
-static void lead_or_ask(void) {
+/* Does what the advice says, until it says nothing; a turn of the node's patience is a millisecond. */
+static void do_what_is_advised(void) {
   static uint64_t before;
   uint64_t now = milliseconds(), passed = before == 0 ? 0 : now - before;
-  rp_advice advice;
+  rp_advice advice = {RP_ADVICE_NOTHING, 0};
   before = now;
-  if (is_to_ask(now)) ask_another();
-  if (leads_on()) return;
-  if (rp_node_advise(&node, &patience, passed, &advice) != RP_DONE) return;
-  if (advice.kind == RP_ADVICE_LEAD) lead(advice.position);
-  if (advice.kind == RP_ADVICE_ASK) ask_another();
+  do {
+    if (rp_node_advise(&node, &patience, passed, &advice) != RP_DONE) return;
+    if (advice.kind == RP_ADVICE_LEAD) lead(advice.position);
+    if (advice.kind == RP_ADVICE_ASK) ask_another();
+    passed = 0;
+  } while (advice.kind != RP_ADVICE_NOTHING);
 }
 
 /* Once the log has ended: the deck with which the station goes on over fresh devices (docs/C.md, "The end of the log"), in
@@ -244,7 +221,7 @@ int main(int count, char **words) {
   net = link_of(header, me, atoi(words[5]), atoi(words[count > 6 ? 6 : 5]));
   for (;;) {
     receive_packets();
-    lead_or_ask();
+    do_what_is_advised();
     store_records();   /* RULE 1: what the steps gave is synced .. */
     hand_on_packets(); /* .. before a packet of theirs leaves */
     put_next_deck(deck, length, words[4]);

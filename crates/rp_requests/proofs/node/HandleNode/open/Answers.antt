@@ -14,5 +14,5 @@ returns-in-Ok-clause-ok g c =
       cut_bytes = c.in-Ok.opening.cut_bytes;
       opens = c.in-Ok.ensures.ok;
       kept_is = c.stored-kept.ensures;
-      no_step = (refl, refl, refl, refl);
+      no_step = (refl, refl, refl, refl, refl);
     })

@@ -373,10 +373,11 @@ package RP is
       What   : in out Advice) return Status
      with Import, Convention => C, External_Name => "rp_node_advise";
    --  What the node is to do after Turns more quiet turns (docs/C.md, "Who leads"). A turn is a turn of the
-   --  caller's loop, or a millisecond. A node that led last leads on at once. Any other, node K, waits 32 K
-   --  turns before it leads for what is pending, and from the third try on twice as many as before, up to 64
-   --  times as many; so a decision takes less than 32 turns. A node that has nothing to do asks 32 K turns
-   --  after it was opened, and then 64 times as seldom. In each turn of its loop the caller asks again, with 0
+   --  caller's loop, or a millisecond. A node that led last leads on at once, and leads again for what is
+   --  pending after 4 turns in which nothing was applied: so a decision takes less than 4 turns. Any other,
+   --  node K, waits 32 K turns before it leads. Both wait from the third try on twice as long as before, up to
+   --  64 times as long. A node that has nothing to do asks 32 K turns after it was opened, and then 64 times as
+   --  seldom. In each turn of its loop the caller asks again, with 0
    --  turns, until the advice is Advice_Nothing. It changes the patience and nothing of the node.
    --  Wrong_Handle: nothing has changed.
 

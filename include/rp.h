@@ -340,10 +340,10 @@ enum rp_advice_kind {
 };
 
 /* What the node is to do after `turns` more quiet turns (docs/C.md, "Who leads"). A turn is a turn of the
- * caller's loop, or a millisecond. A node that led last leads on at once. Any other, node k, waits 32 k turns
- * before it leads for what is pending, and from the third try on twice as many as before, up to 64 times as
- * many; so a decision takes less than 32 turns. A node that has nothing to do asks 32 k turns after it was
- * opened, and then 64 times as seldom. In each turn of its loop the caller asks again, with 0 turns, until the
+ * caller's loop, or a millisecond. A node that led last leads on at once, and leads again for what is pending
+ * after 4 turns in which nothing was applied: so a decision takes less than 4 turns. Any other, node k, waits
+ * 32 k turns before it leads. Both wait from the third try on twice as long as before, up to 64 times as long. A
+ * node that has nothing to do asks 32 k turns after it was opened, and then 64 times as seldom. In each turn of its loop the caller asks again, with 0 turns, until the
  * advice is RP_ADVICE_NOTHING. It changes the patience and nothing of the node.
  * RP_WRONG_HANDLE: nothing has changed. */
 uint8_t rp_node_advise(rp_node *node, rp_patience *patience, uint64_t turns, rp_advice *advice);

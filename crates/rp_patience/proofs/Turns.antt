@@ -39,12 +39,12 @@ module _ (situation : Situation) (missing : situation.is_missing ≡ false) (unc
   waits_on : (turns : ℕ) (p : Patience) → p.applied ≡ situation.applied → waits turns situation.applied p ≡ later turns p
   waits_on turns p same = ap (more_quiet turns) (cond-true (nat_eq situation.applied p.applied) p (restarted situation.applied p) (eq-eqb situation.applied p.applied (sym same)))
 
-  short : (p : Patience) → wait_of situation.node p ≤ 14336
+  short : (p : Patience) → wait_of situation.node situation.led_last p ≤ 14336
   short p =
       let few : min (p.tries - 1) 6 ≤ 6 = omega arith in
       let power : 2 ^ min (p.tries - 1) 6 ≤ 64 = doubled (min (p.tries - 1) 6) few in
       let seven : situation.node ≤ 7 = node.1 in
-      product (2 ^ min (p.tries - 1) 6) power situation.node seven
+      either situation.led_last (2 ^ min (p.tries - 1) 6) power situation.node seven
     where
       product : (x : ℕ) → x ≤ 64 → (k : ℕ) → k ≤ 7 → 32 * k * x ≤ 14336
       product x few zero is = omega arith
@@ -56,6 +56,10 @@ module _ (situation : Situation) (missing : situation.is_missing ≡ false) (unc
       product x few (suc (suc (suc (suc (suc (suc zero)))))) is = omega (arith, few)
       product x few (suc (suc (suc (suc (suc (suc (suc zero))))))) is = omega (arith, few)
       product x few (suc (suc (suc (suc (suc (suc (suc (suc k)))))))) is = absurd (omega (arith, is))
+
+      either : (led : Bool) → (x : ℕ) → x ≤ 64 → (k : ℕ) → k ≤ 7 → cond led 4 (32 * k) * x ≤ 14336
+      either true x few k is = omega (arith, few)
+      either false x few k is = product x few k is
 
   cause : has_cause situation ≡ true
   cause = ap (λ (b : Bool). b || situation.has_uncounted) missing ∙ uncounted
@@ -69,45 +73,45 @@ module _ (situation : Situation) (missing : situation.is_missing ≡ false) (unc
 
   leads : (p : Patience) → once_waited situation p ≡ Lead (situation.applied + 1)
   leads p =
-      ap (λ (b : Bool). cond (situation.has_uncounted && (not b || not (nat_eq p.tries 0))) (to_lead situation) (to_ask situation)) missing
+      ap (λ (b : Bool). cond (situation.has_uncounted && not (b && not situation.led_last && nat_eq p.tries 0)) (to_lead situation) (to_ask situation)) missing
       ∙ ap (λ (b : Bool). cond (b && true) (to_lead situation) (to_ask situation)) uncounted
       ∙ cond-true (nat_lt situation.applied situation.positions) (Lead (situation.applied + 1)) Nothing (lt-ltb situation.applied situation.positions left)
 
   -- one turn
-  advice_is : (turns : ℕ) (p : Patience) → p.applied ≡ situation.applied → (b : Bool) → has_waited situation.node (later turns p) ≡ b
+  advice_is : (turns : ℕ) (p : Patience) → p.applied ≡ situation.applied → (b : Bool) → has_waited situation.node situation.led_last (later turns p) ≡ b
       → advice_after turns situation p ≡ cond b (Lead (situation.applied + 1)) Nothing
   advice_is turns p same b is =
       let q = waits turns situation.applied p in
       cond-true (has_cause situation) _ _ cause
       ∙ ap (advised situation q) (not_at_once q)
-      ∙ ap (λ (r : Patience). cond (has_waited situation.node r) (once_waited situation r) Nothing) (waits_on turns p same)
+      ∙ ap (λ (r : Patience). cond (has_waited situation.node situation.led_last r) (once_waited situation r) Nothing) (waits_on turns p same)
       ∙ ap (λ (t : Bool). cond t (once_waited situation (later turns p)) Nothing) is
       ∙ ap (λ (a : Advice). cond b a Nothing) (leads (later turns p))
 
-  patience_is : (turns : ℕ) (p : Patience) → p.applied ≡ situation.applied → has_waited situation.node (later turns p) ≡ false → patience_after turns situation p ≡ later turns p
+  patience_is : (turns : ℕ) (p : Patience) → p.applied ≡ situation.applied → has_waited situation.node situation.led_last (later turns p) ≡ false → patience_after turns situation p ≡ later turns p
   patience_is turns p same not_yet =
       let q = waits turns situation.applied p in
       cond-true (has_cause situation) _ _ cause
       ∙ ap (λ (o : Option ℕ). once_advised (advised situation q o) o q) (not_at_once q)
-      ∙ ap (λ (r : Patience). once_advised (cond (has_waited situation.node r) (once_waited situation r) Nothing) None r) (waits_on turns p same)
+      ∙ ap (λ (r : Patience). once_advised (cond (has_waited situation.node situation.led_last r) (once_waited situation r) Nothing) None r) (waits_on turns p same)
       ∙ ap (λ (t : Bool). once_advised (cond t (once_waited situation (later turns p)) Nothing) None (later turns p)) not_yet
 
-  waited : (turns : ℕ) (p : Patience) → wait_of situation.node p ≤ p.quiet + turns → has_waited situation.node (later turns p) ≡ true
-  waited turns p over = le-leb (wait_of situation.node p) (min (p.quiet + turns) (2 ^ 64 - 1)) (let few = short p in omega (arith, over, few))
+  waited : (turns : ℕ) (p : Patience) → wait_of situation.node situation.led_last p ≤ p.quiet + turns → has_waited situation.node situation.led_last (later turns p) ≡ true
+  waited turns p over = le-leb (wait_of situation.node situation.led_last p) (min (p.quiet + turns) (2 ^ 64 - 1)) (let few = short p in omega (arith, over, few))
 
-  not_waited : (turns : ℕ) (p : Patience) → p.quiet + turns < wait_of situation.node p → has_waited situation.node (later turns p) ≡ false
-  not_waited turns p before = lt-leb (wait_of situation.node p) (min (p.quiet + turns) (2 ^ 64 - 1)) (let few = short p in omega (arith, before, few))
+  not_waited : (turns : ℕ) (p : Patience) → p.quiet + turns < wait_of situation.node situation.led_last p → has_waited situation.node situation.led_last (later turns p) ≡ false
+  not_waited turns p before = lt-leb (wait_of situation.node situation.led_last p) (min (p.quiet + turns) (2 ^ 64 - 1)) (let few = short p in omega (arith, before, few))
 
-  pub ends : (before : List ℕ) (turns : ℕ) (p : Patience) → p.applied ≡ situation.applied → p.quiet + sum before < wait_of situation.node p → wait_of situation.node p ≤ p.quiet + sum before + turns
+  pub ends : (before : List ℕ) (turns : ℕ) (p : Patience) → p.applied ≡ situation.applied → p.quiet + sum before < wait_of situation.node situation.led_last p → wait_of situation.node situation.led_last p ≤ p.quiet + sum before + turns
       → advice_in_turn situation p (before ++ turns ∷ []) ≡ replicate (length before) Nothing ++ Lead (situation.applied + 1) ∷ []
   ends [] turns p same few over = ap (λ (a : Advice). a ∷ []) (advice_is turns p same true (waited turns p (omega (arith, over))))
   ends (t ∷ rest) turns p same few over =
       let all : sum (t ∷ rest) ≡ t + sum rest = sum_from rest t in
-      let not_yet : has_waited situation.node (later t p) ≡ false = not_waited t p (omega (arith, few, all)) in
+      let not_yet : has_waited situation.node situation.led_last (later t p) ≡ false = not_waited t p (omega (arith, few, all)) in
       let low = short p in
       let quiet : min (p.quiet + t) (2 ^ 64 - 1) ≡ p.quiet + t = omega (arith, few, all, low) in
-      let less : min (p.quiet + t) (2 ^ 64 - 1) + sum rest < wait_of situation.node p = omega (arith, few, all, quiet) in
-      let more : wait_of situation.node p ≤ min (p.quiet + t) (2 ^ 64 - 1) + sum rest + turns = omega (arith, over, all, quiet) in
+      let less : min (p.quiet + t) (2 ^ 64 - 1) + sum rest < wait_of situation.node situation.led_last p = omega (arith, few, all, quiet) in
+      let more : wait_of situation.node situation.led_last p ≤ min (p.quiet + t) (2 ^ 64 - 1) + sum rest + turns = omega (arith, over, all, quiet) in
       let rest_is = ends rest turns (later t p) same less more in
       λ i. advice_is t p same false not_yet i
       ∷ (ap (λ (r : Patience). advice_in_turn situation r (rest ++ turns ∷ [])) (patience_is t p same not_yet) ∙ rest_is) i

@@ -36,11 +36,15 @@ to_lead situation =
 abbrev pub to_ask : Situation → Advice
 to_ask situation = if nat_lt situation.applied situation.positions then Ask else Nothing
 
--- What a node is to do at the end of its wait. If it has something to decide it leads; but if it
--- misses a position it asks first, and leads the next time.
+-- a node that misses a position asks at the end of its first wait, unless it led last
+abbrev pub asks_first : Situation → Patience → Bool
+asks_first situation p = situation.is_missing && not situation.led_last && nat_eq p.tries 0
+
+-- What a node is to do at the end of its wait: if it has something to decide it leads, unless it
+-- asks first.
 abbrev pub once_waited : Situation → Patience → Advice
 once_waited situation p =
-    if situation.has_uncounted && (not situation.is_missing || not (nat_eq p.tries 0))
+    if situation.has_uncounted && not (asks_first situation p)
     then to_lead situation else to_ask situation
 
 -- ---- what it is to do
@@ -48,7 +52,7 @@ once_waited situation p =
 abbrev pub advised : Situation → Patience → Option ℕ → Advice
 advised situation p (Some position) = Lead position
 advised situation p None =
-    if has_waited situation.node p then once_waited situation p else Nothing
+    if has_waited situation.node situation.led_last p then once_waited situation p else Nothing
 
 -- the wait starts again if the node is to do something
 abbrev pub once_advised : Advice → Option ℕ → Patience → Patience

@@ -1,6 +1,6 @@
 -- How long a node waits before it leads with a new ballot, or asks for what it misses.
 use Rattle.std.specs.Prelude.{ℕ, ◌+◌, ◌-◌, ◌*◌, ◌^◌, Bool, not, ◌&&◌, ◌||◌, nat_eq, nat_le, min}
-use Rattle.std.specs.Prelude.{if◌then◌else◌}
+use Rattle.std.specs.Prelude.{if◌then◌else◌, false}
 use Rattle.rp_patience.specs.declared.patience.Patience.{Patience}
 
 -- a wait that begins
@@ -20,18 +20,18 @@ abbrev pub waits : ℕ → ℕ → Patience → Patience
 waits turns applied p =
     more_quiet turns (if nat_eq applied p.applied then p else restarted applied p)
 
--- how many quiet turns the node with this number waits: 32 times its number, and from its third try
--- on twice as many as before, up to 64 times as many
-abbrev pub wait_of : ℕ → Patience → ℕ
-wait_of node p = 32 * node * 2 ^ min (p.tries - 1) 6
+-- how many quiet turns the node with this number waits: 4 if it led last, and otherwise 32 times its
+-- number; and from its third try on twice as many as before, up to 64 times as many
+abbrev pub wait_of : ℕ → Bool → Patience → ℕ
+wait_of node led_last p = (if led_last then 4 else 32 * node) * 2 ^ min (p.tries - 1) 6
 
-abbrev pub has_waited : ℕ → Patience → Bool
-has_waited node p = nat_le (wait_of node p) p.quiet
+abbrev pub has_waited : ℕ → Bool → Patience → Bool
+has_waited node led_last p = nat_le (wait_of node led_last p) p.quiet
 
 -- Node 1 leads at once if it has not led since something was applied; otherwise a node leads at the
 -- end of its wait.
 abbrev pub is_over : ℕ → Patience → Bool
-is_over node p = (nat_eq node 1 && nat_eq p.tries 0) || has_waited node p
+is_over node p = (nat_eq node 1 && nat_eq p.tries 0) || has_waited node false p
 
 -- the wait of a node that leads starts again
 abbrev pub tried : Patience → Patience

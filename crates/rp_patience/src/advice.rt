@@ -20,6 +20,8 @@ pub struct Situation {
     pub has_uncounted: bool,
     /// Whether a call came that cannot count at it, and it has applied nothing since.
     pub had_early: bool,
+    /// Whether it led last.
+    pub led_last: bool,
     /// Where it leads on, if it led last and something is pending for which no proposal of its runs.
     pub leads_on: Option<Position>,
 }
@@ -65,7 +67,7 @@ impl Patience {
             self.lead_on(position);
             return Advice::Lead(position);
         }
-        if !self.has_waited(situation.node) {
+        if !self.has_waited(situation.node, situation.led_last) {
             return Advice::Nothing;
         }
         let advice = self.once_waited(situation);
@@ -92,7 +94,8 @@ impl Patience {
     fn once_waited(&self, situation: &Situation) -> Advice
         ensures { result ≡ once_waited situation.now self.now }
     {
-        if situation.has_uncounted && (!situation.is_missing || self.tries != 0) {
+        let asks_first = situation.is_missing && !situation.led_last && self.tries == 0;
+        if situation.has_uncounted && !asks_first {
             to_lead(situation)
         } else {
             to_ask(situation)

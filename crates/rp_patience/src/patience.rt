@@ -8,6 +8,9 @@ use rp_base::{NodeId, Position};
 /// After how many quiet turns node 1 leads again; node k waits k times as many.
 const QUIET_TURNS: u64 = 32;
 
+/// After how many quiet turns a node that led last leads again.
+const LEADER_TURNS: u64 = 4;
+
 /// At most how often a wait is doubled.
 const MOST_DOUBLINGS: u32 = 6;
 
@@ -84,19 +87,23 @@ impl Patience {
         self.quiet = self.quiet.saturating_add(turns);
     }
 
-    /// Whether the node has waited as long as it waits.
-    pub(crate) fn has_waited(&self, node: NodeId) -> bool
-        ensures { result ≡ has_waited node self.now }
+    /// Whether the node has waited as long as it waits, by whether it led last.
+    pub(crate) fn has_waited(&self, node: NodeId, led_last: bool) -> bool
+        ensures { result ≡ has_waited node led_last self.now }
     {
         let doublings = self.tries.saturating_sub(1).min(MOST_DOUBLINGS);
-        (QUIET_TURNS * u64::from(node.get())) << doublings <= self.quiet
+        if led_last {
+            LEADER_TURNS << doublings <= self.quiet
+        } else {
+            (QUIET_TURNS * u64::from(node.get())) << doublings <= self.quiet
+        }
     }
 
     /// Whether the node, which has something to decide, is to lead now.
     fn is_to_lead(&self, node: NodeId) -> bool
         ensures { result ≡ is_over node self.now }
     {
-        (node.get() == 1 && self.tries == 0) || self.has_waited(node)
+        (node.get() == 1 && self.tries == 0) || self.has_waited(node, false)
     }
 
     /// Counts a try: the wait starts again.

@@ -19,8 +19,8 @@ pub fn waiting_ends()
         → IsNode situation.node → situation.is_missing ≡ false → situation.has_uncounted ≡ true
         → situation.leads_on ≡ None → situation.applied < situation.positions
         → patience.applied ≡ situation.applied
-        → patience.quiet + sum before < wait_of situation.node patience
-        → wait_of situation.node patience ≤ patience.quiet + sum before + turns
+        → patience.quiet + sum before < wait_of situation.node situation.led_last patience
+        → wait_of situation.node situation.led_last patience ≤ patience.quiet + sum before + turns
         → advice_in_turn situation patience (before ++ turns ∷ [])
         ≡ replicate (length before) Nothing ++ Lead (situation.applied + 1) ∷ [] }
 {}

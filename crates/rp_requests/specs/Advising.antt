@@ -51,7 +51,7 @@ module _ {S : Type 0} (next : S → Action → S) (answers : S → Action → Li
 
   -- its number; how many actions it has applied, of how many positions; whether a position is
   -- missing below a learned one; whether something is pending that did not count yet; whether a
-  -- call came that cannot count; and where it leads on
+  -- call came that cannot count; whether it led last; and where it leads on
   abbrev pub situation_of : NodeState S → Situation
   situation_of node = record {
     node = node.replica.me;
@@ -60,5 +60,6 @@ module _ {S : Type 0} (next : S → Action → S) (answers : S → Action → Li
     is_missing = is_some (missing_position node.replica.records);
     has_uncounted = has_uncounted (counted_at next answers node) node.replica.running.pending;
     had_early = node.had_early;
+    led_last = led_last node.replica;
     leads_on = leads_on node;
   }

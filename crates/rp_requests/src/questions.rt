@@ -58,6 +58,7 @@ impl<M: Machine> HandleNode<M> {
             is_missing: self.replica.missing_position().is_some(),
             has_uncounted: self.replica.has_uncounted(),
             had_early: self.had_early,
+            led_last: self.led_last(),
             leads_on: self.leads_on(),
         }
     }

@@ -1,5 +1,6 @@
 --  The library's functions take no null address: each that takes one is called here, unless it is null.
 
+with Ada.Strings.Fixed;
 with Ada.Unchecked_Conversion;
 
 package body RP is
@@ -414,6 +415,48 @@ package body RP is
       Source : Byte;
       Number : in out Interfaces.Unsigned_32) return Status is
      (Number_By (Handle, (Occurred, Source), Number));
+
+   function Node_Next_Timer
+     (Handle : in out Node;
+      Answer : in out Bytes;
+      Is_Set : in out Boolean;
+      Time   : in out Interfaces.Integer_64) return Status
+   is
+      Request : constant Bytes := (1 => Image);
+      Length  : Lengths;
+      Result  : constant Status :=
+        Node_Call (Handle, Request'Address, Request'Length, Answer'Address, Answer'Length, Length);
+
+      --  A line of the image: of a timing event that is set it is `timer NAME at TIME`.
+      procedure Take_Line (Line : String) is
+         Place : constant Natural := Ada.Strings.Fixed.Index (Line, " at ", Ada.Strings.Backward);
+         Set   : Interfaces.Integer_64;
+      begin
+         if Place > Line'First + 6 and then Line (Line'First .. Line'First + 5) = "timer " then
+            Set := Interfaces.Integer_64'Value (Line (Place + 4 .. Line'Last));
+            Time := (if Is_Set then Interfaces.Integer_64'Min (Time, Set) else Set);
+            Is_Set := True;
+         end if;
+      end Take_Line;
+   begin
+      if Result /= Done then
+         return Result;
+      end if;
+      Is_Set := False;
+      declare
+         Text : String (1 .. Natural (Length.Used));
+         From : Positive := 1;
+      begin
+         for Place in Text'Range loop
+            Text (Place) := Character'Val (Answer (Answer'First + Place - 1));
+            if Text (Place) = ASCII.LF then
+               Take_Line (Text (From .. Place - 1));
+               From := Place + 1;
+            end if;
+         end loop;
+      end;
+      return Done;
+   end Node_Next_Timer;
 
    --  The packet that a request to a task gives.
    function Packet_By

@@ -570,6 +570,14 @@ package RP is
       Number : in out Interfaces.Unsigned_32) return Status;
    --  The last occurrence of an interrupt's source that counted: the next one that counts is above it.
 
+   function Node_Next_Timer
+     (Handle : in out Node;
+      Answer : in out Bytes;
+      Is_Set : in out Boolean;
+      Time   : in out Interfaces.Integer_64) return Status;
+   --  The least Time for which a timing event is set at the node, and whether there is one. It is read off
+   --  the node's image, for which Answer has the space: Short_Answer if the image is longer.
+
    --  The packet of a task's call, to send: the first Count bytes of Text, none if Count is 0.
 
    type Call_Packet is record

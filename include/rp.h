@@ -25,6 +25,7 @@
 #include <stdbool.h>
 #include <stddef.h>
 #include <stdint.h>
+#include <string.h>
 
 #ifdef __cplusplus
 extern "C" {
@@ -705,6 +706,52 @@ static inline uint8_t rp_node_counted(rp_node *node, uint8_t task, uint32_t *num
 static inline uint8_t rp_node_occurred(rp_node *node, uint8_t source, uint32_t *number) {
   const uint8_t request[2] = {RP_NODE_OCCURRED, source};
   return rp_node_number(node, request, sizeof request, number);
+}
+
+/* The time of a timing event that is set, by its line in an image, `timer NAME at TIME`, which ends at `end`: whether
+ * it is one, and the time into *time. */
+static inline bool rp_timer_of(const uint8_t *line, const uint8_t *end, int64_t *time) {
+  const uint8_t *at = end;
+  while (at > line && at[-1] != ' ') {
+    at--;
+  }
+  if (at - line < 11 || memcmp(line, "timer ", 6) != 0 || memcmp(at - 4, " at ", 4) != 0) {
+    return false;
+  }
+  bool below = *at == '-';
+  *time = 0;
+  for (at += below; at < end; at++) {
+    *time = *time * 10 - (*at - '0');
+  }
+  *time = below ? *time : -*time;
+  return true;
+}
+
+/* The least time for which a timing event is set at the node, into *time, and whether there is one, into *is_set. It
+ * is read off the node's image (RP_NODE_IMAGE), for which the room's answer has the space: RP_SHORT_ANSWER if the image
+ * is longer. */
+static inline uint8_t rp_node_next_timer(rp_node *node, rp_room *room, bool *is_set, int64_t *time) {
+  const uint8_t request[1] = {RP_NODE_IMAGE};
+  rp_lengths lengths = {0, 0};
+  if (room == NULL || is_set == NULL || time == NULL) {
+    return RP_NULL;
+  }
+  uint8_t status = rp_node_call(node, request, sizeof request, room->answer, room->size, &lengths);
+  if (status != RP_DONE) {
+    return status;
+  }
+  *is_set = false;
+  for (size_t from = 0, end = 0; from < lengths.used; from = end + 1) {
+    int64_t set = 0;
+    for (end = from; end < lengths.used && room->answer[end] != '\n';) {
+      end++;
+    }
+    if (rp_timer_of(room->answer + from, room->answer + end, &set) && (!*is_set || set < *time)) {
+      *is_set = true;
+      *time = set;
+    }
+  }
+  return RP_DONE;
 }
 
 /* The packet of a task's call, to send. */

@@ -1,5 +1,5 @@
---  Stations that go on by advice alone: a call that comes early, a node that comes back to a quiet cluster, and a
---  cluster without node 1. Three nodes of a deck with a gate, over arrays; in each turn of a millisecond each node does
+--  Stations that go on by advice alone: a call that comes early, a node that comes back to a quiet cluster, a cluster
+--  without node 1, and when the next timer is due. Three nodes of a deck with a gate, over arrays; in each turn of a millisecond each node does
 --  what the advice says.
 
 with Ada.Text_IO;
@@ -18,7 +18,8 @@ procedure Advised is
      "nodes 3" & Line & "positions 1000" & Line & "task guest 5" & Line & "task keeper 5" & Line & "object gate 9"
      & Line & "int n 0 1000000 0" & Line & "bool up false" & Line & "function read value n" & Line & "procedure lift"
      & Line & "put up true" & Line & "end" & Line & "entry pass when up" & Line & "put up false" & Line
-     & "set n add n 1" & Line & "out n" & Line & "end" & Line & "script" & Line;
+     & "set n add n 1" & Line & "out n" & Line & "end" & Line & "timer soon gate.lift" & Line
+     & "timer later gate.lift" & Line & "script" & Line;
 
    subtype Number is RP.Byte range 1 .. 3;
    subtype Caller is RP.Byte range 1 .. 2;
@@ -122,11 +123,17 @@ procedure Advised is
    end Applied;
 
    --  A caller's call through a node, of a kind of operation with index 1.
-   procedure Call (By : Caller; Through : Number; Kind : RP.Byte) is
+   procedure Call
+     (By      : Caller;
+      Through : Number;
+      Kind    : RP.Byte;
+      Index   : RP.Byte := 1;
+      Value   : Interfaces.Integer_64 := 0)
+   is
       Packet : RP.Call_Packet;
    begin
       Replies (By).Kind := 0;
-      Must (RP.Task_Operation (Callers (By), Through, 1, Kind, 1, 0, Packet));
+      Must (RP.Task_Operation (Callers (By), Through, 1, Kind, Index, Value, Packet));
       Keep (RP.Node_Take (Nodes (Through), Packet.Text (1 .. Packet.Count), Answer, Places, Parts));
    end Call;
 
@@ -222,8 +229,30 @@ procedure Advised is
       Put_Line ("  positions used:" & Applied (2)'Image);
    end Without_Node_1;
 
+   --  The keeper sets two timers, and cancels one.
+   procedure Timers is
+      procedure Set (Kind, Index : RP.Byte; Value : Interfaces.Integer_64) is
+         Is_Set : Boolean := False;
+         Time   : Interfaces.Integer_64 := 0;
+      begin
+         Call (Keeper, 1, Kind, Index, Value);
+         if Turns_To_Reply (Keeper, 1) > 0 then
+            Must (RP.Node_Next_Timer (Nodes (1), Answer, Is_Set, Time));
+            Put_Line (if Is_Set then "  the next timer is due at" & Time'Image else "  no timer is set");
+         end if;
+      end Set;
+   begin
+      Open_All ("Timers");
+      Away (1) := False;
+      Set (RP.Cancel_Timer, 1, 0);
+      Set (RP.Set_Timer, 2, Interfaces.Integer_64'Last);
+      Set (RP.Set_Timer, 1, 70);
+      Set (RP.Cancel_Timer, 1, 0);
+   end Timers;
+
 begin
    A_Task_Goes_On;
    A_Node_Comes_Back;
    Without_Node_1;
+   Timers;
 end Advised;

@@ -1,5 +1,5 @@
 /* Stations that go on by advice alone: a call that comes early, a stray call, a gap, a node that comes back to a quiet
- * cluster, and a cluster without node 1. Three nodes of a deck with a gate, over byte arrays; in each turn of a
+ * cluster, a cluster without node 1, and when the next timer is due. Three nodes of a deck with a gate, over byte arrays; in each turn of a
  * millisecond each node does what the advice says. */
 #include <stdio.h>
 #include <stdlib.h>
@@ -11,7 +11,8 @@ enum { NODES = 3, GUEST = 1, KEEPER = 2, MOST_BYTES = 1 << 18, READ = 1, LIFT = 
 
 static const char deck[] = "nodes 3\npositions 1000\ntask guest 5\ntask keeper 5\nobject gate 9\nint n 0 1000000 0\n"
                            "bool up false\nfunction read value n\nprocedure lift\nput up true\nend\n"
-                           "entry pass when up\nput up false\nset n add n 1\nout n\nend\nscript\n";
+                           "entry pass when up\nput up false\nset n add n 1\nout n\nend\n"
+                           "timer soon gate.lift\ntimer later gate.lift\nscript\n";
 
 /* A node, its device, and how it is advised; `away` loses all that is sent to it. */
 static struct { rp_node node; rp_patience patience; uint8_t asked; bool away; uint8_t bytes[MOST_BYTES]; size_t length; } at[NODES + 1];
@@ -219,12 +220,40 @@ static void without_node_1(void) {
   printf("  positions used: %u\n", applied(2));
 }
 
+static void print_next_timer(void) {
+  bool is_set = false;
+  int64_t time = 0;
+  must(rp_node_next_timer(&at[1].node, &room, &is_set, &time), "the next timer");
+  if (is_set) printf("  the next timer is due at %lld\n", (long long)time);
+  else printf("  no timer is set\n");
+}
+
+/* The keeper sets a timer, or cancels it if the time is negative. */
+static void set_timer(uint8_t index, int64_t time) {
+  rp_call_packet packet = {{0}, 0};
+  replies[KEEPER].kind = 0;
+  if (time < 0) must(rp_task_cancel_timer(&tasks[KEEPER], 1, 1, index, &packet), "a call");
+  else must(rp_task_set_timer(&tasks[KEEPER], 1, 1, index, time, &packet), "a call");
+  keep(1, rp_node_take(&at[1].node, packet.bytes, packet.count, &room));
+  turns_to_reply(KEEPER, 1);
+  print_next_timer();
+}
+
+static void timers(void) {
+  open_all("Timers");
+  print_next_timer();
+  set_timer(2, 9223372036854775807);
+  set_timer(1, 70);
+  set_timer(1, -1);
+}
+
 int main(void) {
   a_task_goes_on();
   a_stray_call();
   a_gap();
   a_node_comes_back();
   without_node_1();
+  timers();
   for (uint8_t number = 1; number <= NODES; number++) rp_node_close(&at[number].node);
   rp_task_close(&tasks[GUEST]);
   rp_task_close(&tasks[KEEPER]);

@@ -11,6 +11,9 @@ static const char deck[] = "nodes 3\ntask writer 5\nobject tank 9\nint level 0 1
                            "procedure fill\nset level add level arg\nout level\nend\nscript\n";
 static const char other_deck[] = "nodes 3\ntask writer 5\nobject tank 9\nint level 0 99 0\n"
                                  "procedure fill\nset level add level arg\nout level\nend\nscript\n";
+/* The same declarations, of another installation. */
+static const char named_deck[] = "# installation 8f0e3c5a9d4b71266a1f2be07c94d583\nnodes 3\ntask writer 5\nobject tank 9\n"
+                                 "int level 0 100 0\nprocedure fill\nset level add level arg\nout level\nend\nscript\n";
 /* The same declarations, with a script. */
 static const char scripted_deck[] = "nodes 3\ntask writer 5\nobject tank 9\nint level 0 100 0\n"
                                     "procedure fill\nset level add level arg\nout level\nend\nscript\nlead 1\n";
@@ -58,6 +61,7 @@ int main(void) {
   open("its own device", deck, 2, length);
   open("another node's", deck, 1, length);
   open("another deck's", other_deck, 2, length);
+  open("another installation's", named_deck, 2, length);
   open("with another script", scripted_deck, 2, length);
   open("no device at all", deck, 2, 0);
   open("a header that is cut off", deck, 2, RP_HEADER_BYTES - 1);

@@ -272,7 +272,7 @@ package RP is
       Size   : Interfaces.C.size_t) return Status;
    --  Puts the header of the device of this node of the deck into the first Header_Bytes bytes of Header:
    --  the letters RPD, 1, the node, how many nodes and positions (2 bytes) the deck has, and the SHA-256
-   --  digest of the deck's text up to the first line that begins with `script`, byte for byte. The caller
+   --  digest of the deck's text up to the first line that begins with `script` or blanks and that. The caller
    --  puts it at the front of a fresh device, and syncs it, before the first step. Nodes of one
    --  installation may tell each other's packets from those of others by the digest, which the caller then
    --  puts around them.

@@ -276,7 +276,7 @@ uint8_t rp_node_open(const uint8_t *deck, size_t count, uint8_t number, const ui
 
 /* Puts the header of the device of node `number` of the deck into the first RP_HEADER_BYTES bytes of `header`:
  * the letters RPD, 1, the node, how many nodes and positions (2 bytes) the deck has, and the SHA-256 digest of
- * the deck's text up to the first line that begins with `script`, byte for byte. The caller puts it at the
+ * the deck's text up to the first line that begins with `script` or blanks and `script`. The caller puts it at the
  * front of a fresh device, and syncs it, before the first step. Nodes of one installation may tell each
  * other's packets from those of others by the digest, which the caller then puts around them.
  *

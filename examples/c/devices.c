@@ -17,6 +17,9 @@ static const char named_deck[] = "# installation 8f0e3c5a9d4b71266a1f2be07c94d58
 /* The same declarations, with a script. */
 static const char scripted_deck[] = "nodes 3\ntask writer 5\nobject tank 9\nint level 0 100 0\n"
                                     "procedure fill\nset level add level arg\nout level\nend\nscript\nlead 1\n";
+/* The same, with blanks before the script. */
+static const char blanks_deck[] = "nodes 3\ntask writer 5\nobject tank 9\nint level 0 100 0\n"
+                                  "procedure fill\nset level add level arg\nout level\nend\n \t script\nlead 1\n";
 static uint8_t device[MOST_BYTES];
 static size_t length;
 static uint8_t answer[RP_STEP_BYTES];
@@ -63,6 +66,7 @@ int main(void) {
   open("another deck's", other_deck, 2, length);
   open("another installation's", named_deck, 2, length);
   open("with another script", scripted_deck, 2, length);
+  open("with blanks before the script", blanks_deck, 2, length);
   open("no device at all", deck, 2, 0);
   open("a header that is cut off", deck, 2, RP_HEADER_BYTES - 1);
   rp_node_open(text, strlen(deck), 2, device, length, &node, &found);

@@ -1,6 +1,6 @@
---  Stations that go on by advice alone: a call that comes early, a node that comes back to a quiet cluster, a cluster
---  without node 1, and when the next timer is due. Three nodes of a deck with a gate, over arrays; in each turn of a millisecond each node does
---  what the advice says.
+--  Stations that go on by advice alone: a call that comes early, a stray call, a gap, a node that comes back to a quiet
+--  cluster, a cluster without node 1, a call that one node has alone, and when the next timer is due. Three nodes of a
+--  deck with a gate, over arrays; in each turn of a millisecond each node does what the advice says.
 
 with Ada.Text_IO;
 with Interfaces;
@@ -193,6 +193,71 @@ procedure Advised is
          & " turns, positions used:" & Interfaces.Unsigned_32'Image (Applied (1) - 1));
    end A_Task_Goes_On;
 
+   --  A call with a number that is too high comes, again and again.
+   procedure A_Stray_Call is
+      Stray  : RP.Task_Stub;
+      Packet : RP.Call_Packet;
+      Missed : RP.Dropped_Kind := RP.Dropped_Nothing;
+   begin
+      Open_All ("A stray call");
+      Must (RP.Task_Open_After (Guest, 76, Stray));
+      Must (RP.Task_Operation (Stray, 1, 1, RP.A_Function, 1, 0, Packet));
+      for Count in 1 .. 1000 loop
+         Keep (RP.Node_Take (Nodes (1), Packet.Text (1 .. Packet.Count), Answer, Places, Parts));
+         Missed := Parts.Dropped;
+         Turn;
+      end loop;
+      Put_Line ("  dropped by" & Missed'Image & ", positions used:" & Applied (1)'Image);
+      Call (Keeper, 1, RP.A_Procedure);
+      if Turns_To_Reply (Keeper, 1) > 0 then
+         Put_Line
+           ("  another task's call has its reply" & Replies (Keeper).Kind'Image & ", positions used:"
+            & Applied (1)'Image);
+      end if;
+      RP.Task_Close (Stray);
+   end A_Stray_Call;
+
+   --  The packets of a lead are lost, and the next call is decided above it.
+   procedure A_Gap is
+   begin
+      Open_All ("A gap");
+      Call (Guest, 1, RP.A_Function);
+      Advise (1);
+      Sent := 0;
+      Call (Keeper, 1, RP.A_Procedure);
+      if Turns_To_Reply (Keeper, 1) + Turns_To_Reply (Guest, 1) > 0 then
+         Put_Line
+           ("  both have their replies" & Replies (Guest).Kind'Image & " and" & Replies (Keeper).Kind'Image
+            & ", positions used:" & Applied (1)'Image);
+      end if;
+   end A_Gap;
+
+   --  A call comes to node 2 alone while node 1 is busy: its task sends it again, through the next node each
+   --  time.
+   procedure A_Busy_Cluster is
+      Packet  : RP.Call_Packet;
+      Through : Number := 2;
+      Turns   : Natural := 0;
+      Calls   : Natural := 0;
+   begin
+      Open_All ("A call that one node has, while another leads");
+      Call (Guest, Through, RP.A_Function);
+      while Replies (Guest).Kind = 0 and then Turns < 1000 loop
+         if Calls = 0 or else Replies (Keeper).Kind /= 0 then
+            Call (Keeper, 1, RP.A_Procedure);
+            Calls := Calls + 1;
+         end if;
+         Turn;
+         Turns := Turns + 1;
+         if Turns mod 8 = 0 and then Replies (Guest).Kind = 0 then
+            Through := Through mod 3 + 1;
+            Must (RP.Task_Again (Callers (Guest), Through, Packet));
+            Keep (RP.Node_Take (Nodes (Through), Packet.Text (1 .. Packet.Count), Answer, Places, Parts));
+         end if;
+      end loop;
+      Put_Line ("  it has its reply after" & Turns'Image & " turns and" & Calls'Image & " calls of another task");
+   end A_Busy_Cluster;
+
    --  Node 3 is away for 200 calls, and comes back when nothing happens any more.
    procedure A_Node_Comes_Back is
       Turns : Natural := 0;
@@ -243,7 +308,6 @@ procedure Advised is
       end Set;
    begin
       Open_All ("Timers");
-      Away (1) := False;
       Set (RP.Cancel_Timer, 1, 0);
       Set (RP.Set_Timer, 2, Interfaces.Integer_64'Last);
       Set (RP.Set_Timer, 1, 70);
@@ -252,7 +316,10 @@ procedure Advised is
 
 begin
    A_Task_Goes_On;
+   A_Stray_Call;
+   A_Gap;
    A_Node_Comes_Back;
    Without_Node_1;
+   A_Busy_Cluster;
    Timers;
 end Advised;

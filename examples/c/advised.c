@@ -1,6 +1,6 @@
 /* Stations that go on by advice alone: a call that comes early, a stray call, a gap, a node that comes back to a quiet
- * cluster, a cluster without node 1, and when the next timer is due. Three nodes of a deck with a gate, over byte arrays; in each turn of a
- * millisecond each node does what the advice says. */
+ * cluster, a cluster without node 1, a call that one node has alone, and when the next timer is due. Three nodes of a
+ * deck with a gate, over byte arrays; in each turn of a millisecond each node does what the advice says. */
 #include <stdio.h>
 #include <stdlib.h>
 #include <string.h>
@@ -220,6 +220,20 @@ static void without_node_1(void) {
   printf("  positions used: %u\n", applied(2));
 }
 
+/* A call comes to node 2 alone while node 1 is busy: its task sends it again, through the next node each time. */
+static void a_busy_cluster(void) {
+  open_all("A call that one node has, while another leads");
+  uint8_t number = 2;
+  unsigned turns = 0, calls = 0;
+  call(GUEST, number, RP_FUNCTION, READ);
+  for (; replies[GUEST].kind == 0 && turns < 1000; turns++) {
+    if (calls == 0 || replies[KEEPER].kind != 0) call(KEEPER, 1, RP_PROCEDURE, LIFT), calls++;
+    turn();
+    if (turns % 8 == 7) number = number % NODES + 1, again(GUEST, number);
+  }
+  printf("  it has its reply after %u turns and %u calls of another task\n", turns, calls);
+}
+
 static void print_next_timer(void) {
   bool is_set = false;
   int64_t time = 0;
@@ -253,6 +267,7 @@ int main(void) {
   a_gap();
   a_node_comes_back();
   without_node_1();
+  a_busy_cluster();
   timers();
   for (uint8_t number = 1; number <= NODES; number++) rp_node_close(&at[number].node);
   rp_task_close(&tasks[GUEST]);

@@ -10,7 +10,7 @@ use Rattle.rp_explore_run.specs.Reports.{report_text_of}
 use Rattle.rp_explore_run.specs.declared.report.Report.{Report}
 use Rattle.rp_explore_run.specs.Findings.{IsReportOf, found_of}
 use Rattle.rp_explore_run.specs.Shown.{IsShownBy}
-use Rattle.rp_explore_run.specs.Trials.{ShowsWhenRun}
+use Rattle.rp_explore_run.specs.Trials.{HidesWhenRun, ShowsWhenRun}
 use Rattle.rp_explore_run.specs.declared.answer.Printed.{Printed}
 use Rattle.rp_explore_run.specs.declared.answer.Verdict.{Verdict}
 use Rattle.rp_explore_run.specs.declared.answer.Verdict.TheVariants as verdicts
@@ -78,11 +78,17 @@ module _ {S : Type 0} (next : S → Action → S) (answers : S → Action → Li
     pub is_shown : IsShownBy next answers begin image d.names d.may d.explored found shown
     pub long : d.positions < length shown.order.items
 
+  -- the deck of an order that leads to what was found does not show it when it is run
+  pub record IsHidden (found : Found) : Type 0 where
+    pub shown : Shown
+    pub is_shown : IsShownBy next answers begin image d.names d.may d.explored found shown
+    pub hides : HidesWhenRun (deck_for d shown.order.items) shown.wanted
+
   -- what was found is shown by the deck that is printed, or nothing is printed
   abbrev pub IsDeckWith : Found → Verdict → List ℕ → Type 0
   IsDeckWith found verdicts.Shown text = IsShownDeck found text
   IsDeckWith found verdicts.TooLong text = (text ≡ []) × IsTooLong found
-  IsDeckWith found verdicts.NotShown text = text ≡ []
+  IsDeckWith found verdicts.NotShown text = (text ≡ []) × IsHidden found
   IsDeckWith found _ text = ⊥
 
   abbrev pub IsDeckOf : Found → Printed → Type 0

@@ -13,6 +13,7 @@
 //! - `script_of_order`: the deck of an order
 //! - `wanted`: what the run of a deck has to print
 //! - `order_lines`: the lines of a text
+//! - `laws`: what rules mean, and which words say what was found
 #![tactic(auto)]
 
 mod answer;
@@ -20,6 +21,7 @@ mod demands;
 mod explore;
 mod findings;
 mod judge;
+mod laws;
 mod order_lines;
 mod report;
 mod report_lines;
@@ -33,6 +35,7 @@ pub use demands::{AreNotAllTrue, AreTrue};
 pub use explore::explore_deck;
 pub use findings::{Found, Judged, found_of, order_at, report_on};
 pub use judge::{judge_objects, judge_tally};
+pub use laws::{a_broken_rule_is_told_first, reports_say_what_was_found, rules_mean_their_words};
 pub use order_lines::lines_of;
 pub use report::{Report, report_text, task_name};
 pub use report_lines::{FiguresLine, HeldLine, Outcome, OutcomeText};

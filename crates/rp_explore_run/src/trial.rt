@@ -1,8 +1,8 @@
 //! Runs the deck of an outcome in memory.
 
-ghost use Rattle.std.specs.Prelude.{IfErr, IfOk, IfSome, IsTrue};
+ghost use Rattle.std.specs.Prelude.{◌≡◌, false, IfErr, IfNone, IfOk, IfSome, IsTrue};
 ghost use Rattle.rp_script.specs.rp_output.specs.Faults.{IsRunFault};
-ghost use Rattle.rp_explore_run.specs.Trials.{IsDeckText, IsOutputOf, ShowsWhenRun};
+ghost use Rattle.rp_explore_run.specs.Trials.{HidesWhenRun, IsDeckText, IsNoDeck, IsOutputOf, ShowsWhenRun};
 
 use crate::{Wanted, is_shown};
 use rp_base::Fault;
@@ -13,6 +13,7 @@ use std::alloc::Global;
 /// Whether the text is a deck whose script, when it is run, prints what is wanted.
 pub fn shows(alloc: Global, text: &[u8], wanted: &Wanted) -> Result<bool, Fault>
     ensures shown { IfOk result (λ shown. IsTrue shown → ShowsWhenRun text.now wanted.now) }
+    ensures hidden { IfOk result (λ shown. shown ≡ false → HidesWhenRun text.now wanted.now) }
     ensures fault { IfErr result IsRunFault }
 {
     match output_of(alloc, text)? {
@@ -25,6 +26,7 @@ pub fn shows(alloc: Global, text: &[u8], wanted: &Wanted) -> Result<bool, Fault>
 fn output_of(alloc: Global, text: &[u8]) -> Result<Option<Vec<u8>>, Fault>
     ensures output { IfOk result (λ output.
         IfSome output (λ printed. IsOutputOf text.now printed.items)) }
+    ensures none { IfOk result (λ output. IfNone output (IsNoDeck text.now)) }
     ensures fault { IfErr result IsRunFault }
 {
     let Some(deck) = deck_of(alloc, text)? else {
@@ -38,6 +40,7 @@ fn output_of(alloc: Global, text: &[u8]) -> Result<Option<Vec<u8>>, Fault>
 /// The deck that the text is, if it is one.
 fn deck_of(alloc: Global, text: &[u8]) -> Result<Option<Deck>, Fault>
     ensures deck { IfOk result (λ deck. IfSome deck (λ d. IsDeckText text.now d)) }
+    ensures none { IfOk result (λ deck. IfNone deck (IsNoDeck text.now)) }
     ensures fault { IfErr result IsRunFault }
 {
     if text.len() > MOST_BYTES {

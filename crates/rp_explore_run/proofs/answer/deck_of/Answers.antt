@@ -1,7 +1,7 @@
 -- The deck is printed, or the order is longer than the log.
 use Rattle.std.proofs.Common.{◌<◌, ◌∙◌, List, ℕ, length, ap, arith, rules, sym, subst}
 use Rattle.rp_explore_run.specs.Answers.{IsDeckWith, deck_for, explored_deck}
-use Rattle.rp_explore_run.specs.Trials.{ShowsWhenRun}
+use Rattle.rp_explore_run.specs.Trials.{HidesWhenRun, ShowsWhenRun}
 use Rattle.rp_explore_run.specs.declared.answer.Verdict.{Verdict}
 use Rattle.rp_explore_run.proofs.answer.deck_of.Goals as goal
 
@@ -22,3 +22,13 @@ returns-then-branch-clause-deck g c =
       text_is = c.in_ok-text.ensures ∙ ap (deck_for d) c.deref.ensures.value;
       shows = subst (λ (t : List ℕ). ShowsWhenRun t c.in_ok-shown.shown.wanted) c.deref-2.ensures.value ran;
     }
+
+pub returns-clause-deck : goal.returns-clause-deck
+returns-clause-deck g c =
+    let d = explored_deck c.args.searched.now in
+    let hides : HidesWhenRun c.deref-2.result.now c.in_ok-shown.shown.wanted = c.in_ok-shows.ensures.hidden (search rules) in
+    let hidden : HidesWhenRun (deck_for d c.in_ok-shown.shown.order.items) c.in_ok-shown.shown.wanted =
+        subst (λ (t : List ℕ). HidesWhenRun t c.in_ok-shown.shown.wanted)
+        (c.deref-2.ensures.value ∙ (c.in_ok-text.ensures ∙ ap (deck_for d) c.deref.ensures.value)) hides in
+    subst (λ (v : Verdict). IsDeckWith g.M.Machine.next g.M.Machine.answers (g.M.Machine.begin c.args.program.now) g.M.Machine.image d c.args.found.now v c.nothing-else-branch.result.text.items)
+    (sym c.nothing-else-branch.ensures.verdict) (c.nothing-else-branch.ensures.text, record { shown = c.in_ok-shown.shown; is_shown = c.in_ok-shown.ensures; hides = hidden })

@@ -6,6 +6,8 @@ package body RP_Calls is
    Of_Function  : constant Number := 1;
    Of_Procedure : constant Number := 2;
    Of_Entry     : constant Number := 3;
+   Of_Setting   : constant Number := 4;
+   Of_Cancel    : constant Number := 5;
 
    function Value_Function (Argument : Value := 0) return Value is
      (Call (Object, Of_Function, Index, Argument));
@@ -36,5 +38,15 @@ package body RP_Calls is
    begin
       null;
    end An_Entry_Alone;
+
+   procedure Set_A_Timing_Event (At_Time : Value) is
+      Ignored : constant Value := Call (Object, Of_Setting, Index, At_Time);
+      pragma Unreferenced (Ignored);
+   begin
+      null;
+   end Set_A_Timing_Event;
+
+   function Cancel_A_Timing_Event return Boolean is
+     (Call (Object, Of_Cancel, Index, 0) /= 0);
 
 end RP_Calls;

@@ -8,8 +8,8 @@ generic
    with function Call
      (Object, Kind, Index : Interfaces.Unsigned_8;
       Argument            : Interfaces.Integer_64) return Interfaces.Integer_64;
-   --  Makes a call of the operation of this kind (1 a function, 2 a procedure, 3 an entry) and index of an object,
-   --  and waits for its reply. It returns the reply's value, a Boolean as 0 or 1, and raises Constraint_Error or
+   --  Makes a call of the operation of this kind (1 a function, 2 a procedure, 3 an entry, 4 to set a timing
+   --  event, 5 to cancel it) and index of an object, and waits for its reply. It returns the reply's value, a Boolean as 0 or 1, and raises Constraint_Error or
    --  Program_Error where the operation did.
 
 package RP_Calls is
@@ -45,5 +45,16 @@ package RP_Calls is
    generic
       Object, Index : Number;
    procedure An_Entry_Alone (Argument : Value := 0);
+
+   --  A timing event, by the object of its handler and its own number: it is set for a time, in place of one for which
+   --  it was set, or cancelled, which returns whether it was set.
+
+   generic
+      Object, Index : Number;
+   procedure Set_A_Timing_Event (At_Time : Value);
+
+   generic
+      Object, Index : Number;
+   function Cancel_A_Timing_Event return Boolean;
 
 end RP_Calls;

@@ -9,7 +9,7 @@ _rp_console() {
         live) words=" --seed --turns -h --help " ;;
         chart) words=" --position --hide-self --from --to --html -h --help " ;;
         explore) words=" --states --deck -h --help " ;;
-        bind) words=" --ada --c -h --help " ;;
+        bind) words=" --ada --local --c -h --help " ;;
         *) words=" script live chart explore bind -h --help -V --version " ;;
     esac
     [[ $COMP_CWORD -gt 1 && $words == *script* ]] && return

@@ -22,5 +22,6 @@ complete -c rp_console -n '__fish_seen_subcommand_from explore' -l states -x -d 
 complete -c rp_console -n '__fish_seen_subcommand_from explore' -l deck -x -d 'Prints a deck for script that shows outcome N, 1 to 4294967295'
 complete -c rp_console -n '__fish_seen_subcommand_from explore' -s h -l help -d 'Print help'
 complete -c rp_console -n '__fish_seen_subcommand_from bind' -l ada -d 'Prints packages of Ada, as without an option'
+complete -c rp_console -n '__fish_seen_subcommand_from bind' -l local -d 'Prints the body of the package whose objects are on this machine alone'
 complete -c rp_console -n '__fish_seen_subcommand_from bind' -l c -d 'Prints a header of C'
 complete -c rp_console -n '__fish_seen_subcommand_from bind' -s h -l help -d 'Print help'

@@ -30,6 +30,7 @@ _rp_console() {
                 '-h[Print help]' \
                 '--help[Print help]' ;;
             bind) _arguments '--ada[Prints packages of Ada, as without an option]' \
+                '--local[Prints the body of the package whose objects are on this machine alone]' \
                 '--c[Prints a header of C]' \
                 '-h[Print help]' \
                 '--help[Print help]' ;;

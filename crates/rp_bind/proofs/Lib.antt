@@ -1,3 +1,2 @@
 mod Mapped
-mod Numbered
 mod Reading

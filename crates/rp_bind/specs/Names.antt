@@ -8,7 +8,7 @@ use Rattle.rp_bind.specs.declared.names.BadName.{BadName}
 use Rattle.rp_bind.specs.declared.names.NameReason.{NameReason}
 use Rattle.rp_bind.specs.declared.names.NameReason.TheVariants.{Reserved, Underscore, Case}
 
--- the words that Ada reserves
+-- the words that Ada reserves, and the name of the package that declares Boolean
 abbrev pub reserved_words : List (List ℕ)
 reserved_words =
     codes "abort" ∷ codes "abs" ∷ codes "abstract" ∷ codes "accept" ∷ codes "access" ∷
@@ -22,7 +22,7 @@ reserved_words =
     codes "package" ∷ codes "parallel" ∷ codes "pragma" ∷ codes "private" ∷ codes "procedure" ∷
     codes "protected" ∷ codes "raise" ∷ codes "range" ∷ codes "record" ∷ codes "rem" ∷
     codes "renames" ∷ codes "requeue" ∷ codes "return" ∷ codes "reverse" ∷ codes "select" ∷
-    codes "separate" ∷ codes "some" ∷ codes "subtype" ∷ codes "synchronized" ∷ codes "tagged" ∷
+    codes "separate" ∷ codes "some" ∷ codes "standard" ∷ codes "subtype" ∷ codes "synchronized" ∷ codes "tagged" ∷
     codes "task" ∷ codes "terminate" ∷ codes "then" ∷ codes "type" ∷ codes "until" ∷
     codes "use" ∷ codes "when" ∷ codes "while" ∷ codes "with" ∷ codes "xor" ∷ []
 
@@ -41,13 +41,15 @@ abbrev pub has_stray_underscore : List ℕ → Bool
 has_stray_underscore [] = false
 has_stray_underscore (byte ∷ rest) = is_stray byte rest || has_stray_underscore rest
 
--- why a name is none of Ada where these follow it
-abbrev pub reason_of : List ℕ → List (List ℕ) → Option NameReason
-reason_of name later =
-    if is_reserved name then Some Reserved
-    else if has_stray_underscore name then Some Underscore
+-- why a name is none of Ada where these follow it; where a prefix is before each, a reserved word is fine
+abbrev pub part_reason_of : List ℕ → List (List ℕ) → Option NameReason
+part_reason_of name later =
+    if has_stray_underscore name then Some Underscore
     else if is_among_in_any_case name later then Some Case
     else None
+
+abbrev pub reason_of : List ℕ → List (List ℕ) → Option NameReason
+reason_of name later = if is_reserved name then Some Reserved else part_reason_of name later
 
 -- a name that is none of Ada, and why
 pub record BadNameText : Type 0 where
@@ -78,3 +80,8 @@ bad_if name (Some reason) otherwise = Some (record { name = name; reason = reaso
 abbrev pub first_bad : List (List ℕ) → Option BadNameText
 first_bad [] = None
 first_bad (name ∷ later) = bad_if name (reason_of name later) (first_bad later)
+
+-- the same where a prefix is before each
+abbrev pub first_bad_part : List (List ℕ) → Option BadNameText
+first_bad_part [] = None
+first_bad_part (name ∷ later) = bad_if name (part_reason_of name later) (first_bad_part later)

@@ -1,16 +1,17 @@
 //! Packages for the deck of a text.
 
 ghost use Rattle.std.specs.Prelude.{◌≡◌, ◌+◌, ◌<◌, ◌^◌, length, option_map, IfOk, IfErr};
-ghost use Rattle.rp_bind.specs.Binds.{declared_in, first_bad_among, first_bad_of, Binds, BindsText};
+ghost use Rattle.rp_bind.specs.Binds.{declared_in, first_bad_among, first_bad_component, first_bad_inside, first_bad_of, first_bad_of_object, Binds, BindsText};
 ghost use Rattle.rp_bind.specs.Names.{bad_name_text};
 ghost use Rattle.rp_deck_declarations.specs.rp_words.specs.LineFaults.{IsDeckFault, Refuses};
 
 use crate::lines::Language;
-use crate::names::{BadName, first_bad};
+use crate::names::{BadName, first_bad, first_bad_part};
 use crate::packages::packages_text;
 use rp_base::Fault;
-use rp_deck_declarations::{Declared, read_declarations};
+use rp_deck_declarations::{DeckProgram, Declared, read_declarations};
 use rp_deck_objects::OperationNames;
+use rp_object::ObjectDeclaration;
 use rp_words::Lines;
 use std::alloc::{AllocError, Global};
 
@@ -58,17 +59,26 @@ fn bind_declared(
     }
 }
 
-/// The first name of a deck that is none of Ada: among its tasks, its objects, and then among the
-/// operations of each object.
+/// The first name of a deck that is none of Ada: among its tasks, its objects, the operations of each
+/// object, the components of each, its interrupts and its timing events.
 fn first_bad_of(declared: &Declared) -> Option<BadName<'_>>
     ensures { option_map bad_name_text result ≡ first_bad_of declared.now }
 {
     if let Some(bad) = first_bad(declared.tasks.keys().as_slice()) {
         return Some(bad);
     }
-    match first_bad(declared.objects.as_slice()) {
+    if let Some(bad) = first_bad(declared.objects.as_slice()) {
+        return Some(bad);
+    }
+    if let Some(bad) = first_bad_among(&declared.operations) {
+        return Some(bad);
+    }
+    if let Some(bad) = first_bad_component(&declared.program) {
+        return Some(bad);
+    }
+    match first_bad(declared.interrupts.keys().as_slice()) {
         Some(bad) => Some(bad),
-        None => first_bad_among(&declared.operations),
+        None => first_bad(declared.timers.keys().as_slice()),
     }
 }
 
@@ -82,4 +92,36 @@ fn first_bad_among(objects: &[OperationNames]) -> Option<BadName<'_>>
         }
     }
     None
+}
+
+/// The first name among the components of a program that is none of Ada.
+fn first_bad_component(program: &DeckProgram) -> Option<BadName<'_>>
+    ensures { option_map bad_name_text result ≡ first_bad_component program.now }
+{
+    match program {
+        DeckProgram::Tally(_) => None,
+        DeckProgram::Objects(program) => first_bad_inside(&program.declarations().objects),
+    }
+}
+
+/// The first name among the components of these objects that is none of Ada.
+fn first_bad_inside(objects: &[ObjectDeclaration]) -> Option<BadName<'_>>
+    ensures { option_map bad_name_text result ≡ first_bad_inside objects.now }
+{
+    for object in objects {
+        if let Some(bad) = first_bad_of_object(object) {
+            return Some(bad);
+        }
+    }
+    None
+}
+
+/// The first name among the components of an object that is none of Ada.
+fn first_bad_of_object(object: &ObjectDeclaration) -> Option<BadName<'_>>
+    ensures { option_map bad_name_text result ≡ first_bad_of_object object.now }
+{
+    match first_bad_part(&object.ints) {
+        Some(bad) => Some(bad),
+        None => first_bad_part(&object.bools),
+    }
 }

@@ -4,9 +4,11 @@
 //! - `deck_binding`: packages for the deck of a text
 //! - `names`: which names a package may have
 //! - `packages`: the text of packages, by the names and the numbers of a deck
+//! - `arguments`: the range of the arguments of an operation
 //! - `lines`: the lines of packages
 #![tactic(auto)]
 
+mod arguments;
 mod deck_binding;
 mod lines;
 mod names;

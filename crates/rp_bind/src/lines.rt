@@ -1,14 +1,18 @@
 //! The lines of packages.
 
 ghost use Rattle.std.specs.Prelude.{Some};
-ghost use Rattle.rp_bind.specs.Texts.{ada_lines, c_lines, inline_body, inline_function, inline_head, object_end, object_head, operation_lines, subprogram, task_constant};
+ghost use Rattle.rp_bind.specs.Texts.{ada_lines, c_lines, inline_body, inline_function, inline_head, object_end, object_head, operation_lines, subprogram, task_constant, timer_lines, timer_subprogram};
 
 use std::fmt;
 
-/// The language of packages.
+/// What is printed of a deck.
 #[derive(Clone, Copy)]
 pub enum Language {
+    /// The specification of a package of Ada.
     Ada,
+    /// Its body whose objects are protected objects of one machine.
+    Local,
+    /// A header of C.
     C,
 }
 
@@ -43,9 +47,67 @@ impl fmt::Display for TaskLine<'_> {
     fn fmt<W: fmt::Write>(&self, f: &mut fmt::Formatter<W>) -> fmt::Result {
         let Party { name, number, .. } = self.task;
         match self.task.language {
-            Language::Ada => writeln!(f, "      {name} : constant := {number};"),
+            Language::Ada | Language::Local => writeln!(f, "      {name} : constant := {number};"),
             Language::C => writeln!(f, "  task__{name} = {number},"),
         }
+    }
+}
+
+/// A timing event of this number, whose handler is a procedure of the object of that number.
+#[derive(Clone, Copy)]
+pub struct TimerLines<'a> {
+    pub name: &'a str,
+    pub object: u8,
+    pub number: usize,
+}
+
+impl fmt::Display for TimerLines<'_> {
+    ghost output = { λ l. Some (timer_lines l.name.now l.object l.number) };
+
+    fn fmt<W: fmt::Write>(&self, f: &mut fmt::Formatter<W>) -> fmt::Result {
+        let TimerLines {
+            name,
+            object,
+            number,
+        } = *self;
+        let set = TimerSubprogram {
+            head: "procedure Set is new Calls_Of_This_Deck.Set_A_Timing_Event",
+            object,
+            number,
+        };
+        let cancel = TimerSubprogram {
+            head: "function Cancel is new Calls_Of_This_Deck.Cancel_A_Timing_Event",
+            object,
+            number,
+        };
+        write!(
+            f,
+            "      package {name} is\n{set}{cancel}      end {name};\n"
+        )
+    }
+}
+
+/// A subprogram of a timing event, which begins with this.
+#[derive(Clone, Copy)]
+struct TimerSubprogram<'a> {
+    head: &'a str,
+    object: u8,
+    number: usize,
+}
+
+impl fmt::Display for TimerSubprogram<'_> {
+    ghost output = { λ l. Some (timer_subprogram l.head.now l.object l.number) };
+
+    fn fmt<W: fmt::Write>(&self, f: &mut fmt::Formatter<W>) -> fmt::Result {
+        let TimerSubprogram {
+            head,
+            object,
+            number,
+        } = *self;
+        writeln!(
+            f,
+            "         {head}\n           (Object => {object}, Index => {number});"
+        )
     }
 }
 
@@ -61,7 +123,7 @@ impl fmt::Display for ObjectHead<'_> {
     fn fmt<W: fmt::Write>(&self, f: &mut fmt::Formatter<W>) -> fmt::Result {
         let name = self.object.name;
         match self.object.language {
-            Language::Ada => write!(f, "\n   package {name} is\n"),
+            Language::Ada | Language::Local => write!(f, "\n   package {name} is\n"),
             Language::C => write!(f, "\n/* The object {name}. */\n"),
         }
     }
@@ -79,7 +141,7 @@ impl fmt::Display for ObjectEnd<'_> {
     fn fmt<W: fmt::Write>(&self, f: &mut fmt::Formatter<W>) -> fmt::Result {
         let name = self.object.name;
         match self.object.language {
-            Language::Ada => writeln!(f, "   end {name};"),
+            Language::Ada | Language::Local => writeln!(f, "   end {name};"),
             Language::C => Ok(()),
         }
     }
@@ -101,7 +163,7 @@ impl fmt::Display for OperationLines<'_> {
     fn fmt<W: fmt::Write>(&self, f: &mut fmt::Formatter<W>) -> fmt::Result {
         let operation = *self;
         match self.object.language {
-            Language::Ada => {
+            Language::Ada | Language::Local => {
                 let lines = AdaLines { operation };
                 write!(f, "{lines}")
             }
@@ -226,7 +288,7 @@ impl fmt::Display for Subprogram<'_> {
         let number = object.number;
         writeln!(
             f,
-            "      {word} {name} is new Calls_Of_This_Deck.{calls} (Object => {number}, Index => {index});"
+            "      {word} {name} is new Calls_Of_This_Deck.{calls}\n        (Object => {number}, Index => {index});"
         )
     }
 }

@@ -3,12 +3,13 @@
 ghost use Rattle.std.specs.Prelude.{◌≡◌, map, option_map, string_bytes, Some};
 ghost use Rattle.std.specs.List.{list_any};
 ghost use Rattle.std.specs.Str.{str_eq_ignore_ascii_case};
-ghost use Rattle.rp_bind.specs.Names.{bad_line, bad_name_text, first_bad, has_stray_underscore, is_among_in_any_case, is_reserved, is_stray, reason_of};
+ghost use Rattle.rp_bind.specs.Names.{bad_line, bad_name_text, first_bad, first_bad_part, has_stray_underscore, is_among_in_any_case, is_reserved, is_stray, part_reason_of, reason_of};
 
 use std::fmt;
 
-/// The words that Ada reserves (Ada Reference Manual, section 2.9).
-const RESERVED: [&str; 74] = [
+/// The words that Ada reserves (Ada Reference Manual, section 2.9), and the name of the package that
+/// declares Boolean (section A.1), which is not to be hidden.
+const RESERVED: [&str; 75] = [
     "abort",
     "abs",
     "abstract",
@@ -70,6 +71,7 @@ const RESERVED: [&str; 74] = [
     "select",
     "separate",
     "some",
+    "standard",
     "subtype",
     "synchronized",
     "tagged",
@@ -140,7 +142,29 @@ fn reason_of(name: &str, later: &[String]) -> Option<NameReason>
 {
     if is_reserved(name) {
         Some(NameReason::Reserved)
-    } else if has_stray_underscore(name.as_bytes()) {
+    } else {
+        part_reason_of(name, later)
+    }
+}
+
+/// The first of these names that is none of Ada where a prefix is before each: then a reserved word
+/// is fine.
+pub(crate) fn first_bad_part(names: &[String]) -> Option<BadName<'_>>
+    ensures { option_map bad_name_text result ≡ first_bad_part (map string_bytes names.now) }
+{
+    for (place, name) in names.iter().enumerate() {
+        if let Some(reason) = part_reason_of(name, &names[place + 1..]) {
+            return Some(BadName { name, reason });
+        }
+    }
+    None
+}
+
+/// Why a name is none of Ada where a prefix is before it, and these follow it.
+fn part_reason_of(name: &str, later: &[String]) -> Option<NameReason>
+    ensures { result ≡ part_reason_of name.now (map string_bytes later.now) }
+{
+    if has_stray_underscore(name.as_bytes()) {
         Some(NameReason::Underscore)
     } else if is_among(name, later) {
         Some(NameReason::Case)

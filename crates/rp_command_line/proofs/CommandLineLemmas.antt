@@ -157,5 +157,6 @@ module _ (one other : Text → Option Text) (same : (option : Text) → one opti
   pub is_language_by : (language : Language) → IsLanguage one language → IsLanguage other language
   is_language_by language is = record {
     c = λ e. is.c (same (codes "c") ∙ e);
-    ada = λ e. is.ada (same (codes "c") ∙ e);
+    local = λ e l. is.local (same (codes "c") ∙ e) (same (codes "local") ∙ l);
+    ada = λ e l. is.ada (same (codes "c") ∙ e) (same (codes "local") ∙ l);
   }

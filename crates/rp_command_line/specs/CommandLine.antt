@@ -109,16 +109,19 @@ console_of_runs =
 abbrev pub flag_option : Text → Rule
 flag_option name = record (new_rule name) { long = Some name; action = Some SetTrue }
 
--- the options `--ada` and `--c`
+-- the options `--ada`, `--local` and `--c`
 abbrev pub ada_option : Rule
 ada_option = flag_option (codes "ada")
+
+abbrev pub local_option : Rule
+local_option = flag_option (codes "local")
 
 abbrev pub c_option : Rule
 c_option = flag_option (codes "c")
 
--- the subcommand `bind`, with its two options
+-- the subcommand `bind`, with its three options
 abbrev pub bind : App
-bind = with_rule (with_rule (new_app (codes "bind")) ada_option) c_option
+bind = with_rule (with_rule (with_rule (new_app (codes "bind")) ada_option) local_option) c_option
 
 -- the program's command line: the subcommands `script`, `live`, `chart`, `explore` and `bind`
 abbrev pub console : App
@@ -201,7 +204,11 @@ pub record IsRequest (value : Text → Option Text) (request : ExploreRequest) :
   pub no_deck : value (codes "deck") ≡ None → request.deck ≡ None
   pub deck : (number : ℕ) → ReadsAs 32 (value (codes "deck")) number → request.deck ≡ Some number
 
--- The language that the values of these options choose: C by `--c`, and else Ada.
+-- What the values of these options choose: a header of C by `--c`; else the body of a package of Ada
+-- by `--local`, and its specification without it.
 pub record IsLanguage (value : Text → Option Text) (language : Language) : Type 0 where
   pub c : value (codes "c") ≡ Some (codes "true") → language ≡ languages.C
-  pub ada : value (codes "c") ≡ Some (codes "false") → language ≡ languages.Ada
+  pub local : value (codes "c") ≡ Some (codes "false") → value (codes "local") ≡ Some (codes "true")
+      → language ≡ languages.Local
+  pub ada : value (codes "c") ≡ Some (codes "false") → value (codes "local") ≡ Some (codes "false")
+      → language ≡ languages.Ada

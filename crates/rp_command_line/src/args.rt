@@ -3,7 +3,7 @@
 ghost use Rattle.std.specs.Prelude.{◌≡◌, ℕ, None, Some, true, false, codes, IfOk, map, option_map};
 ghost use Rattle.clap.specs.Words.{app_of, rule_of, subcommand_of, fault_of, found_of, one_text, FailsBy};
 ghost use Rattle.clap.specs.declared.builder.command.Command.TheViews.{out-Command};
-ghost use Rattle.rp_command_line.specs.CommandLine.{ada_option, bind, bind_option, c_option, chart, chart_option, console, count_option, explore, explore_option, hide_self_option, html_option, live, subcommand_word, position_option, script, seed, seed_of, states, trace_of, turns, turns_of, IsChartRequest, IsLanguage, IsRequest, IsView, ReadsAs};
+ghost use Rattle.rp_command_line.specs.CommandLine.{ada_option, bind, bind_option, c_option, chart, chart_option, console, count_option, explore, explore_option, hide_self_option, html_option, live, local_option, subcommand_word, position_option, script, seed, seed_of, states, trace_of, turns, turns_of, IsChartRequest, IsLanguage, IsRequest, IsView, ReadsAs};
 
 use crate::words::VERSION;
 use clap::{Arg, ArgAction, ArgMatches, Command, Error, value_parser};
@@ -141,6 +141,7 @@ fn bind_command<'a>(alloc: Global) -> Result<Command<'a>, AllocError>
         )
         .override_usage("rp_console bind [OPTIONS] < DECK")
         .arg(ada_option(alloc))?
+        .arg(local_option(alloc))?
         .arg(c_option(alloc))
 }
 
@@ -230,6 +231,17 @@ fn ada_option<'a>(alloc: Global) -> Arg<'a>
         .action(ArgAction::SetTrue)
 }
 
+/// The option `--local`.
+fn local_option<'a>(alloc: Global) -> Arg<'a>
+    ensures rule { rule_of result ≡ local_option }
+    ensures local { result.global ≡ false }
+{
+    Arg::new(alloc, "local")
+        .long("local")
+        .help("Prints the body of the package whose objects are on this machine alone")
+        .action(ArgAction::SetTrue)
+}
+
 /// The option `--c`.
 fn c_option<'a>(alloc: Global) -> Arg<'a>
     ensures rule { rule_of result ≡ c_option }
@@ -310,6 +322,8 @@ fn language_of(found: &ArgMatches<'_>) -> Language
 {
     if found.get_flag("c") {
         Language::C
+    } else if found.get_flag("local") {
+        Language::Local
     } else {
         Language::Ada
     }

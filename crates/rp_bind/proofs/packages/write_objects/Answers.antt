@@ -3,7 +3,7 @@ use Rattle.std.proofs.Common.{◌≡◌, ◌∙◌, ◌+◌, ℕ, List, ap, rule
 use Rattle.std.specs.Prelude.{String}
 use Rattle.std.specs.declared.alloc.Global.{Global}
 use Rattle.rp_bind.specs.Packages.{object_text, objects_text}
-use Rattle.rp_bind.proofs.Numbered.{one_written}
+use Rattle.rp_bind_local.proofs.Numbered.{one_written}
 use Rattle.rp_bind.proofs.packages.write_objects.Goals as goal
 
 pub loop-place-preserved : goal.loop-place-preserved

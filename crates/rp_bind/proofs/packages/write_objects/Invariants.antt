@@ -1,5 +1,6 @@
 use Rattle.std.proofs.Common.{◌≡◌, ◌+◌, ◌++◌, drop, string_bytes}
-use Rattle.rp_bind.specs.Packages.{numbered, object_text, objects_text}
+use Rattle.rp_bind_local.specs.Numbered.{numbered}
+use Rattle.rp_bind.specs.Packages.{object_text, objects_text}
 use Rattle.rp_bind.proofs.packages.write_objects.Given as goal
 
 -- the objects before this one are written, and the others are left

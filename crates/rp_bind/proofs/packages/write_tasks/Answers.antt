@@ -4,7 +4,7 @@ use Rattle.std.specs.Prelude.{String}
 use Rattle.std.specs.declared.alloc.Global.{Global}
 use Rattle.rp_bind.specs.Packages.{tasks_text}
 use Rattle.rp_bind.specs.Texts.{task_constant}
-use Rattle.rp_bind.proofs.Numbered.{one_written}
+use Rattle.rp_bind_local.proofs.Numbered.{one_written}
 use Rattle.rp_bind.proofs.packages.write_tasks.Goals as goal
 
 pub loop-place-preserved : goal.loop-place-preserved

@@ -1,5 +1,6 @@
 use Rattle.std.proofs.Common.{◌≡◌, ◌+◌, ◌++◌, drop, string_bytes}
-use Rattle.rp_bind.specs.Packages.{numbered, tasks_text}
+use Rattle.rp_bind_local.specs.Numbered.{numbered}
+use Rattle.rp_bind.specs.Packages.{tasks_text}
 use Rattle.rp_bind.specs.Texts.{task_constant}
 use Rattle.rp_bind.proofs.packages.write_tasks.Given as goal
 

@@ -1,7 +1,7 @@
 -- Lines that are numbered from 1.
 use Rattle.std.proofs.Common.{◌≡◌, ◌∙◌, ◌+◌, ◌++◌, ◌<◌, ℕ, List, length, drop, get_or, ap, sym, append_assoc}
 use Rattle.std.proofs.lemmas.List.{at_drop_more}
-use Rattle.rp_bind.specs.Packages.{numbered}
+use Rattle.rp_bind_local.specs.Numbered.{numbered}
 
 module _ {X : Type 0} (line : ℕ → X → List ℕ) (rows : List X) (place : ℕ) (row : X) (within : place < length rows) (is : row ≡ get_or rows place row) where
   -- one line more is written, and those after it are left

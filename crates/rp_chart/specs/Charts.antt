@@ -4,7 +4,7 @@ use Rattle.std.specs.Prelude.{decimal, map}
 use Rattle.std.specs.Io.KnownBytes.{Appends}
 use Rattle.std.specs.List.{slice_split}
 use Rattle.rp_script.specs.indexmap.specs.IndexMap.{index_map_len}
-use Rattle.rp_chart.specs.declared.chart.ChartRequest.{ChartRequest}
+use Rattle.rp_history.specs.declared.view.ChartRequest.{ChartRequest}
 use Rattle.rp_chart.specs.declared.chart.Outcome.{Outcome}
 use Rattle.rp_chart.specs.declared.chart.Outcome.TheVariants.{Drawn, TooLong}
 use Rattle.rp_chart.specs.ScriptHistory.{DrawnRun, script_happens}

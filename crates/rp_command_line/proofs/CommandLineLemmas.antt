@@ -14,9 +14,9 @@ use Rattle.clap.specs.Words.{is_simple, is_simple_and_free, HasKind, subcommand_
 use Rattle.clap.specs.declared.parser.matches.ArgMatches.{ArgMatches}
 use Rattle.clap.specs.declared.parser.matches.ArgMatches.TheViews.{out-ArgMatches}
 use Rattle.rp_bind.specs.declared.lines.Language.{Language}
-use Rattle.rp_explore_run.specs.declared.answer.ExploreRequest.{ExploreRequest}
+use Rattle.rp_explore_deck.specs.declared.request.ExploreRequest.{ExploreRequest}
 use Rattle.rp_history.specs.declared.view.View.{View}
-use Rattle.rp_chart.specs.declared.chart.ChartRequest.{ChartRequest}
+use Rattle.rp_history.specs.declared.view.ChartRequest.{ChartRequest}
 use Rattle.rp_command_line.specs.CommandLine.{console, option_of, IsChartRequest, IsLanguage, IsRequest, IsView, ReadsAs}
 
 or_else_second : (first second : Kinds) → or_else first second ≡ [] → second ≡ []

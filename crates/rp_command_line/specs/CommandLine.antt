@@ -10,9 +10,9 @@ use Rattle.clap.specs.declared.builder.action.ArgAction.TheVariants.{SetTrue}
 use Rattle.clap.specs.declared.builder.value_parser.ValueParser.TheVariants.{Signed}
 use Rattle.rp_bind.specs.declared.lines.Language.{Language}
 use Rattle.rp_bind.specs.declared.lines.Language.TheVariants as languages
-use Rattle.rp_explore_run.specs.declared.answer.ExploreRequest.{ExploreRequest}
+use Rattle.rp_explore_deck.specs.declared.request.ExploreRequest.{ExploreRequest}
 use Rattle.rp_history.specs.declared.view.View.{View}
-use Rattle.rp_chart.specs.declared.chart.ChartRequest.{ChartRequest}
+use Rattle.rp_history.specs.declared.view.ChartRequest.{ChartRequest}
 use Rattle.rp_history.specs.declared.page.Form.TheVariants.{Drawing, Page}
 use Rattle.rp_command_line.specs.declared.args.Args.{Args}
 use Rattle.rp_command_line.specs.declared.args.Args.TheVariants.{Script, Live, Chart, Explore, Bind}

@@ -18,10 +18,10 @@ use Rattle.rp_chart.specs.Charts.{DrawingBegins, Draws}
 use Rattle.rp_chart.specs.declared.chart.Outcome.TheVariants.{Drawn}
 use Rattle.rp_chart.specs.declared.chart.Outcome.TheVariants as outcomes
 use Rattle.rp_explore_run.specs.Explores.{ExploreBegins, Explores, FailsExplore}
-use Rattle.rp_explore_run.specs.declared.answer.ExploreRequest.{ExploreRequest}
+use Rattle.rp_explore_deck.specs.declared.request.ExploreRequest.{ExploreRequest}
 use Rattle.rp_explore_run.specs.declared.answer.Verdict.{Verdict}
 use Rattle.rp_explore_run.specs.declared.answer.Verdict.TheVariants as verdicts
-use Rattle.rp_chart.specs.declared.chart.ChartRequest.{ChartRequest}
+use Rattle.rp_history.specs.declared.view.ChartRequest.{ChartRequest}
 use Rattle.rp_bind_run.specs.rp_script.specs.Agreeing.{ScriptBegins, ScriptPrints}
 use Rattle.rp_command_line.specs.CommandLine.{bind_option, chart_option, console, explore_option}
 use Rattle.rp_command_line.specs.CommandLine.{seed_of, subcommand_word, trace_of, turns_of}

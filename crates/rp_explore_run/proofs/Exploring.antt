@@ -10,7 +10,7 @@ use Rattle.rp_explore_deck.specs.declared.rules.Rule.{Rule}
 use Rattle.rp_explore_run.specs.Answers.{ExploredDeck, IsAnswer}
 use Rattle.rp_explore_run.specs.Explores.{IsExploredAt, IsExploredFor, IsSearch, asked_deck, explored_plan, head_of}
 use Rattle.rp_explore_run.specs.Judging.{IsJudged}
-use Rattle.rp_explore_run.specs.declared.answer.ExploreRequest.{ExploreRequest}
+use Rattle.rp_explore_deck.specs.declared.request.ExploreRequest.{ExploreRequest}
 use Rattle.rp_explore_run.specs.declared.answer.Printed.{Printed}
 use Rattle.rp_explore_run.specs.declared.explore.Asked.{Asked}
 use Rattle.rp_explore_run.specs.declared.findings.Judged.{Judged}

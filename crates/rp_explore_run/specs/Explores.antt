@@ -25,7 +25,7 @@ use Rattle.rp_explore_deck.specs.declared.plan.Plan.{Plan}
 use Rattle.rp_explore_deck.specs.declared.rules.Rule.{Rule}
 use Rattle.rp_explore_run.specs.Answers.{ExploredDeck, IsAnswer}
 use Rattle.rp_explore_run.specs.Judging.{IsJudged, keeps, no_truths}
-use Rattle.rp_explore_run.specs.declared.answer.ExploreRequest.{ExploreRequest}
+use Rattle.rp_explore_deck.specs.declared.request.ExploreRequest.{ExploreRequest}
 use Rattle.rp_explore_run.specs.declared.answer.Printed.{Printed}
 use Rattle.rp_explore_run.specs.declared.answer.Verdict.{Verdict}
 use Rattle.rp_explore_run.specs.declared.explore.Asked.{Asked}

@@ -12,14 +12,14 @@ ghost use Rattle.rp_script.specs.rp_object.specs.Step.{objects_answers, objects_
 ghost use Rattle.rp_explore.specs.rp_orders.specs.Orders.{AreRight};
 ghost use Rattle.rp_script.specs.rp_output.specs.Faults.{IsRunFault};
 
-use crate::answer::{ExploreRequest, Printed, Verdict, printed_of};
+use crate::answer::{Printed, Verdict, printed_of};
 use crate::judge::{judge_objects, judge_tally};
 use crate::shown::Searched;
 use crate::{Source, lines_of};
 use rp_base::{Action, Fault};
 use rp_deck::{DeckProgram, Line};
 use rp_explore::{Explored, explore};
-use rp_explore_deck::{PlacedRule, Plan, PlannedAction, read_plan};
+use rp_explore_deck::{ExploreRequest, PlacedRule, Plan, PlannedAction, read_plan};
 use rp_machine::{Tally, TallyProgram};
 use rp_object::{Objects, Program};
 use rp_script::{read_whole, write_out, write_whole};

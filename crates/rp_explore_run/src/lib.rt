@@ -30,7 +30,7 @@ mod shown;
 mod trial;
 mod wanted;
 
-pub use answer::{ExploreRequest, Printed, Verdict, printed_of};
+pub use answer::{Printed, Verdict, printed_of};
 pub use demands::{AreNotAllTrue, AreTrue};
 pub use explore::explore_deck;
 pub use findings::{Found, Judged, found_of, order_at, report_on};

@@ -13,7 +13,7 @@ use Rattle.rp_script.specs.rp_output.specs.Stream.{Begins}
 use Rattle.rp_script.specs.rp_output.proofs.Writing.{appends_kept, begins_all}
 use Rattle.rp_script.proofs.Failing.{on_err}
 use Rattle.rp_script.specs.Given.{FailsRun, most_bytes}
-use Rattle.rp_chart.specs.declared.chart.ChartRequest.{ChartRequest}
+use Rattle.rp_history.specs.declared.view.ChartRequest.{ChartRequest}
 use Rattle.rp_chart.specs.Charts.{ChartsBytes, IsChartIfShort, deck_lines}
 use Rattle.rp_chart.proofs.chart.draw_script.Goals as goal
 

@@ -1,8 +1,8 @@
 use Rattle.std.proofs.Common.{◌≡◌, ◌∙◌, [], map, inl, inr, rules, true, false, codes, ap, ap₂, sym, subst, refl, Option, Some}
 use Rattle.clap.specs.Words.{Text, fault_of, found_of, one_text, subcommand_name_of}
 use Rattle.rp_bind.specs.declared.lines.Language.{Language}
-use Rattle.rp_explore_run.specs.declared.answer.ExploreRequest.{ExploreRequest}
-use Rattle.rp_chart.specs.declared.chart.ChartRequest.{ChartRequest}
+use Rattle.rp_explore_deck.specs.declared.request.ExploreRequest.{ExploreRequest}
+use Rattle.rp_history.specs.declared.view.ChartRequest.{ChartRequest}
 use Rattle.rp_command_line.specs.CommandLine.{bind_option, chart_option, console, explore_option, option_of, trace_of, IsChartRequest, IsLanguage, IsRequest, ReadsAs}
 use Rattle.rp_command_line.proofs.CommandLineLemmas.{no_fault, has_fault, is_chart_by, is_language_by, is_request_by, met_name, met_one, option_read}
 use Rattle.rp_command_line.specs.declared.args.Args.TheVariants.{Script, Live}

@@ -7,7 +7,7 @@ use Rattle.rp_script.specs.rp_deck.specs.Deck.{IsRightDeck}
 use Rattle.rp_explore_deck.specs.Plans.{plan_of, plan_text}
 use Rattle.rp_explore_deck.specs.declared.plan.Plan.{Plan}
 use Rattle.rp_explore_run.specs.Explores.{ExploresAs, FailsExplore, IsExplored}
-use Rattle.rp_explore_run.specs.declared.answer.ExploreRequest.{ExploreRequest}
+use Rattle.rp_explore_deck.specs.declared.request.ExploreRequest.{ExploreRequest}
 use Rattle.rp_explore_run.specs.declared.answer.Printed.{Printed}
 use Rattle.rp_explore_run.specs.Wanted.{text_lines}
 use Rattle.rp_script.specs.rp_output.specs.Stream.{Begins}

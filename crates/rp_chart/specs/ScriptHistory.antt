@@ -30,7 +30,7 @@ use Rattle.rp_run.specs.rp_model.specs.declared.event.Step.TheVariants.{Deliver}
 use Rattle.rp_run.specs.rp_output.specs.Printed.{applied_line_of, stopped_line_of}
 use Rattle.rp_details.specs.Details.{details_text}
 use Rattle.rp_history.specs.declared.page.Form.{Form}
-use Rattle.rp_history.specs.declared.page.Form.TheVariants.{Drawing, Page}
+use Rattle.rp_history.specs.declared.page.Form.TheVariants.{Drawing}
 use Rattle.rp_run.specs.Output.{RunSetting, Play, transition_of, event_said, command_said, from_to}
 use Rattle.rp_run.specs.Output.{is_among, least_unsettled, opening_play}
 use Rattle.rp_run.specs.Runs.{run_setting}
@@ -165,7 +165,7 @@ module _ {S : Type 0} (d : DrawnRun S) where
   -- world after it. A drawing says nothing.
   abbrev pub details_as : Form → Event → ℕ → World → List ℕ
   details_as Drawing event first after = []
-  details_as Page event first after =
+  details_as _ event first after =
       details_text d.run d.stage.tasks (delivered_by event) first after
 
   -- an event of the line of this number happens, or is refused, and then nothing happens

@@ -67,7 +67,7 @@ impl Scene<'_> {
     {
         match self.form {
             Form::Drawing => Ok(Vec::new(alloc)),
-            Form::Page => {
+            Form::Page | Form::Calls => {
                 let packets = EventPackets {
                     tasks: self.stage.tasks,
                     delivered: delivered_by(event),

@@ -14,9 +14,10 @@ use Rattle.rp_history.specs.Histories.{LaneText, is_too_long, lane_text}
 use Rattle.rp_history.specs.declared.stage.Stage.{Stage}
 use Rattle.rp_model.specs.Effect.{Setting}
 use Rattle.rp_model.specs.World.{World}
-use Rattle.rp_history.specs.Frame.{before_drawing, after_drawing, after_sections}
+use Rattle.rp_history.specs.Frame.{before_drawing, after_drawing, after_sections, after_switch}
+use Rattle.rp_history.specs.Frame.{switch_text}
 use Rattle.rp_history.specs.declared.page.Form.{Form}
-use Rattle.rp_history.specs.declared.page.Form.TheVariants.{Drawing, Page}
+use Rattle.rp_history.specs.declared.page.Form.TheVariants.{Drawing, Page, Calls}
 
 -- a byte of a text as it is written in HTML: `&` and `<` by their names, and a blank for one that is
 -- not printed and ends no line
@@ -74,37 +75,39 @@ sections_text names rows = sections_from names 1 rows
 
 -- The page of a sketch, all of it: a head, the drawing under lanes of these names, the sections of
 -- its moments, and a script that shows one of them at a time.
-abbrev pub html_text : List Lane → Sketch → List ℕ
-html_text names sketch =
-    before_drawing ++ page_text names sketch ++ after_drawing
+abbrev pub html_text : Form → List Lane → Sketch → List ℕ
+html_text form names sketch =
+    before_drawing ++ page_text names sketch ++ after_drawing ++ switch_text form ++ after_switch
     ++ sections_text names sketch.rows.items ++ after_sections
 
 -- The text is to the byte the page of a sketch of the history in which this happened, which leads
 -- to this world, under these lanes. The sketch is not too long. So each section is that of a moment of
 -- the history, and has its label.
-pub record IsPageOf {S : Type 0} (s : Setting S) (stage : Stage) (lanes : List LaneText)
-    (happened : List Happening) (last : World) (text : List ℕ)
+pub record IsPageOf {S : Type 0} (form : Form) (s : Setting S) (stage : Stage)
+    (lanes : List LaneText) (happened : List Happening) (last : World) (text : List ℕ)
     : Type 0 where
   pub sketch : Sketch
   pub sketched : IsSketchOf s stage sketch happened last
   pub short : is_too_long stage sketch ≡ false
   pub names : List Lane
   pub lanes_are : map lane_text names ≡ lanes
-  pub page : text ≡ html_text names sketch
+  pub page : text ≡ html_text form names sketch
 
 -- The page of that history, or none if its sketch is too long.
-abbrev pub IsPageIfShort : {S : Type 0} → Setting S → Stage → List LaneText → List Happening
-    → World → Option (List ℕ)
+abbrev pub IsPageIfShort : {S : Type 0} → Form → Setting S → Stage → List LaneText
+    → List Happening → World → Option (List ℕ)
     → Type 0
-IsPageIfShort s stage lanes happened last None = IsTooLongFor s stage happened last
-IsPageIfShort s stage lanes happened last (Some text) =
-    IsPageOf s stage lanes happened last text
+IsPageIfShort form s stage lanes happened last None = IsTooLongFor s stage happened last
+IsPageIfShort form s stage lanes happened last (Some text) =
+    IsPageOf form s stage lanes happened last text
 
--- the drawing of that history, or its page
+-- the drawing of that history, or its page, which may show calls and replies alone at first
 abbrev pub IsDrawnAs : {S : Type 0} → Form → Setting S → Stage → List LaneText → List Happening
     → World → Option (List ℕ)
     → Type 0
 IsDrawnAs Drawing s stage lanes happened last text =
     IsDrawnIfShort s stage lanes happened last text
 IsDrawnAs Page s stage lanes happened last text =
-    IsPageIfShort s stage lanes happened last text
+    IsPageIfShort Page s stage lanes happened last text
+IsDrawnAs Calls s stage lanes happened last text =
+    IsPageIfShort Calls s stage lanes happened last text

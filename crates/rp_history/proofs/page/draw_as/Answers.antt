@@ -16,3 +16,8 @@ pub returns-in-Page-clause-drawn : goal.returns-in-Page-clause-drawn
 returns-in-Page-clause-drawn g c = λ s happened last sketched.
     subst (λ (form : Form). IfOk c.draw_page.result (λ text. IsDrawnAs form s c.args.chart.now.stage (map lane_text c.args.lanes.now) happened last (option_map string_bytes text)))
     (sym c.in-Page.is) (c.draw_page.ensures.page s happened last sketched)
+
+pub returns-in-Calls-clause-drawn : goal.returns-in-Calls-clause-drawn
+returns-in-Calls-clause-drawn g c = λ s happened last sketched.
+    subst (λ (form : Form). IfOk c.draw_page-in-Calls.result (λ text. IsDrawnAs form s c.args.chart.now.stage (map lane_text c.args.lanes.now) happened last (option_map string_bytes text)))
+    (sym c.in-Calls.is) (c.draw_page-in-Calls.ensures.page s happened last sketched)

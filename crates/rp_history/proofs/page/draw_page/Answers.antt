@@ -2,7 +2,7 @@
 use Rattle.std.proofs.Common.{◌≡◌, ◌∙◌, ◌++◌, ℕ, List, [], refl, sym, ap}
 use Rattle.rp_drawing.specs.Drawings.{page_text}
 use Rattle.rp_drawing.specs.declared.sketch.Row.{Row}
-use Rattle.rp_history.specs.Frame.{before_drawing, after_drawing, after_sections}
+use Rattle.rp_history.specs.Frame.{before_drawing, after_drawing, after_sections, after_switch, switch_text}
 use Rattle.rp_history.specs.Pages.{sections_text}
 use Rattle.rp_history.proofs.page.draw_page.Goals as goal
 
@@ -15,7 +15,7 @@ returns-clause-page g c = λ s happened last sketched.
     let names = c.args.lanes.now in
     let sketch = c.args.chart.now.sketch in
     let drawing = c.deref.ensures ∙ c.in_ok-drawing.ensures.page in
-    let page = λ (before : List ℕ) (drawn : List ℕ) (rows : List Row). before ++ before_drawing ++ drawn ++ after_drawing ++ sections_text names rows ++ after_sections in
+    let page = λ (before : List ℕ) (drawn : List ℕ) (rows : List Row). before ++ before_drawing ++ drawn ++ after_drawing ++ switch_text c.args.form ++ after_switch ++ sections_text names rows ++ after_sections in
     record {
       sketch = sketch;
       sketched = sketched;

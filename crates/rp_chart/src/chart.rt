@@ -13,20 +13,13 @@ use indexmap::IndexMap;
 use rp_base::Fault;
 use rp_deck::{Deck, DeckProgram, Mode, Task, read_deck};
 use rp_drawing::{Lane, Words};
-use rp_history::{Form, Stage, View};
+use rp_history::{ChartRequest, Stage};
 use rp_machine::Tally;
 use rp_object::Objects;
 use rp_script::{DRAIN_LIMIT, RunOptions, read_whole, write_out, write_whole};
 use rp_store::MemDevice;
 use std::alloc::{AllocError, Global};
 use std::io::{Read, Write};
-
-/// What is made of a run: which part of it, and whether that is drawn or made a page.
-#[derive(Clone, Copy)]
-pub struct ChartRequest {
-    pub view: View,
-    pub form: Form,
-}
 
 /// What became of a drawing or a page.
 #[derive(Clone, Copy)]

@@ -14,6 +14,6 @@ mod prospect;
 mod scene;
 mod walk;
 
-pub use chart::{ChartRequest, Outcome, draw_script};
+pub use chart::{Outcome, draw_script};
 pub use scene::Scene;
 pub use walk::draw_lines;

@@ -10,7 +10,7 @@ use clap::{Arg, ArgAction, ArgMatches, Command, Error, value_parser};
 use rp_base::Position;
 use rp_bind::Language;
 use rp_explore_deck::ExploreRequest;
-use rp_history::{Form, View};
+use rp_history::{ChartRequest, Form, View};
 use std::alloc::{AllocError, Global};
 use std::convert::AsStr;
 

@@ -25,4 +25,4 @@ pub use chart::Chart;
 pub use happened::{Happened, NodeState, actor_of, delivered_by};
 pub use page::{Form, draw_as};
 pub use stage::Stage;
-pub use view::{View, colour_of};
+pub use view::{ChartRequest, View, colour_of};

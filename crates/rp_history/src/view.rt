@@ -3,6 +3,7 @@
 ghost use Rattle.std.specs.Prelude.{◌≡◌};
 ghost use Rattle.rp_history.specs.Views.{colour_of, is_about, is_event_drawn, is_from, is_this_node, is_part, is_to, is_to_itself, is_within, named_ballot, names_position, shows, shows_all};
 
+use crate::page::Form;
 use rp_base::{Ballot, NodeId, Position};
 use rp_codec::{Body, Packet, Party};
 
@@ -17,6 +18,13 @@ pub struct View {
     pub from: Option<u32>,
     /// That of the last one.
     pub to: Option<u32>,
+}
+
+/// What is made of a run: which part of it, and whether that is drawn or made a page.
+#[derive(Clone, Copy)]
+pub struct ChartRequest {
+    pub view: View,
+    pub form: Form,
 }
 
 impl View {

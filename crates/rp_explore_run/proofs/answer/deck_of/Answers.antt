@@ -28,7 +28,7 @@ returns-clause-deck g c =
     let d = explored_deck c.args.searched.now in
     let hides : HidesWhenRun c.deref-2.result.now c.in_ok-shown.shown.wanted = c.in_ok-shows.ensures.hidden (search rules) in
     let hidden : HidesWhenRun (deck_for d c.in_ok-shown.shown.order.items) c.in_ok-shown.shown.wanted =
-        subst (λ (t : List ℕ). HidesWhenRun t c.in_ok-shown.shown.wanted)
-        (c.deref-2.ensures.value ∙ (c.in_ok-text.ensures ∙ ap (deck_for d) c.deref.ensures.value)) hides in
+    subst (λ (t : List ℕ). HidesWhenRun t c.in_ok-shown.shown.wanted)
+    (c.deref-2.ensures.value ∙ (c.in_ok-text.ensures ∙ ap (deck_for d) c.deref.ensures.value)) hides in
     subst (λ (v : Verdict). IsDeckWith g.M.Machine.next g.M.Machine.answers (g.M.Machine.begin c.args.program.now) g.M.Machine.image d c.args.found.now v c.nothing-else-branch.result.text.items)
     (sym c.nothing-else-branch.ensures.verdict) (c.nothing-else-branch.ensures.text, record { shown = c.in_ok-shown.shown; is_shown = c.in_ok-shown.ensures; hides = hidden })

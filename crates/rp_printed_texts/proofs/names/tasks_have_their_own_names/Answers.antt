@@ -11,8 +11,8 @@ after_these (first ∷ before) after name = after_these before after name
 
 pub returns : goal.returns
 returns c = record {
-      replies = λ before after name answer is.
-          ap (λ task. Replied (task_name (before ++ name ∷ after) task) answer) is
-          ∙ ap (λ found. Replied (or_nothing found) answer) (after_these before after name);
-      parties = λ before after name. ap or_nothing (after_these before after name);
-    }
+  replies = λ before after name answer is.
+      ap (λ task. Replied (task_name (before ++ name ∷ after) task) answer) is
+      ∙ ap (λ found. Replied (or_nothing found) answer) (after_these before after name);
+  parties = λ before after name. ap or_nothing (after_these before after name);
+}

@@ -8,7 +8,8 @@ use Rattle.clap.specs.declared.error.kind.ErrorKind.{ErrorKind}
 use Rattle.clap.specs.declared.error.kind.ErrorKind.TheVariants.{OutOfMemory}
 use Rattle.rp_deck_hints.specs.rp_base.specs.declared.fault.Fault.{Fault}
 use Rattle.rp_deck_hints.specs.rp_base.specs.declared.fault.Fault.TheVariants.{BadDeck}
-use Rattle.rp_deck_hints.specs.rp_deck.specs.declared.deck.Mode.{Mode}
+use Rattle.rp_deck_hints.specs.declared.reading.Reading.{Reading}
+use Rattle.rp_deck_hints.specs.declared.reading.Reading.TheVariants.{Deck, Plan}
 use Rattle.rp_deck_hints.specs.rp_deck.specs.declared.deck.Mode.TheVariants as modes
 use Rattle.rp_bind_run.specs.rp_bind.specs.declared.lines.Language.{Language}
 use Rattle.rp_bind_run.specs.Prints.{BindingBegins, FailsBinding, PrintsBinding}
@@ -119,18 +120,19 @@ search_status verdicts.TooLong = 2
 search_status verdicts.NotShown = 7
 
 -- how the deck is read for what was asked for
-abbrev pub mode_of : Args → Mode
-mode_of (Script traced) = modes.Script
-mode_of (Live seed turns) = modes.Live
-mode_of (Chart request) = modes.Script
-mode_of (Explore request) = modes.Script
-mode_of (Bind language) = modes.Script
+abbrev pub reading_of : Args → Reading
+reading_of (Script traced) = Deck modes.Script
+reading_of (Live seed turns) = Deck modes.Live
+reading_of (Chart request) = Deck modes.Script
+reading_of (Explore request) = Plan
+reading_of (Bind language) = Deck modes.Script
 
 -- a hint is one of a bad deck of these bytes
-abbrev pub IsHintOf : Mode → List ℕ → Result Report Fault → Option Hint → Type 0
-IsHintOf mode bytes ran None = Unit {0}
-IsHintOf mode bytes (Err (BadDeck line reason)) (Some hint) = IsHint mode bytes line reason hint
-IsHintOf mode bytes ran (Some hint) = ⊥
+abbrev pub IsHintOf : Reading → List ℕ → Result Report Fault → Option Hint → Type 0
+IsHintOf reading bytes ran None = Unit {0}
+IsHintOf reading bytes (Err (BadDeck line reason)) (Some hint) =
+    IsHint reading bytes line reason hint
+IsHintOf reading bytes ran (Some hint) = ⊥
 
 -- what is reported of a fault: its line, and then that of a hint, if there is one
 abbrev pub hint_report : Option Hint → List ℕ
@@ -177,7 +179,7 @@ pub record RunsAs (args : Args) (given output output_after errors errors_after :
   pub printed : IfOk ran (Prints args (Some bytes) output output_after)
   pub begun : OnErr ran (HasBegun args (Some bytes) output output_after)
   pub fault : IfErr ran (IsFaultOf args (Some bytes) output output_after)
-  pub hinted : IsHintOf (mode_of args) bytes ran hint
+  pub hinted : IsHintOf (reading_of args) bytes ran hint
   pub status : ending.status ≡ status_of_run ran
   pub reported : Writes errors errors_after (report_of ran hint) ending.reported
   pub silent : report_of ran hint ≡ [] → errors_after ≡ errors

@@ -1,7 +1,7 @@
 //! Does what the words of the command line ask for, and reports its faults.
 
 ghost use Rattle.std.specs.Prelude.{◌≡◌, ◌≤◌, [], IfErr, IfOk, Ok, OnErr, length, map};
-ghost use Rattle.rp_console.specs.Console.{IsFaultOf, FollowsWords, HasBegun, IsHintOf, Prints, EndsAs, fault_report, mode_of, report_of, search_report, search_status, status_of_run};
+ghost use Rattle.rp_console.specs.Console.{IsFaultOf, FollowsWords, HasBegun, IsHintOf, Prints, EndsAs, fault_report, reading_of, report_of, search_report, search_status, status_of_run};
 ghost use Rattle.rp_bind_run.specs.rp_output.specs.Endings.{status_of};
 ghost use Rattle.rp_bind_run.specs.rp_output.specs.FaultMessage.{with_line_feed};
 ghost use Rattle.rp_bind_run.specs.rp_output.specs.Stream.{Writes};
@@ -12,7 +12,7 @@ use rp_bind_run::bind_deck;
 use rp_chart::{Outcome, draw_script};
 use rp_command_line::{Args, read_args, refuse_words};
 use rp_deck::Mode;
-use rp_deck_hints::{Hint, hint_for};
+use rp_deck_hints::{Hint, Reading, hint_for};
 use rp_explore_run::{Verdict, explore_deck};
 use rp_live_run::{FiguresLine, LiveRequest, run_live};
 use rp_output::{Ending, Streams, fail, report};
@@ -98,11 +98,11 @@ fn run_to_end<T: Threads + Wait + Clock + Sync, R: Read + Drop, W: Write + Drop,
         (W.contents streams.old.writer) (W.contents streams.new.writer)
         (E.contents streams.old.errors) (E.contents streams.new.errors) result }
 {
-    let mode = mode_of(&args);
+    let reading = reading_of(&args);
     match read_whole(alloc, &mut streams.reader) {
         Ok(text) => {
             let ran = run_as(rt, alloc, args, &mut text.as_slice(), &mut streams.writer);
-            let hint = hint_of(alloc, &text, mode, &ran);
+            let hint = hint_of(alloc, &text, reading, &ran);
             end(&mut streams.errors, ran, hint)
         }
         Err(fault) => fail(&mut streams.errors, fault),
@@ -110,12 +110,13 @@ fn run_to_end<T: Threads + Wait + Clock + Sync, R: Read + Drop, W: Write + Drop,
 }
 
 /// How the deck is read for what was asked for.
-fn mode_of(args: &Args) -> Mode
-    ensures { result ≡ mode_of args.now }
+fn reading_of(args: &Args) -> Reading
+    ensures { result ≡ reading_of args.now }
 {
     match args {
-        Args::Live { .. } => Mode::Live,
-        _ => Mode::Script,
+        Args::Live { .. } => Reading::Deck(Mode::Live),
+        Args::Explore(_) => Reading::Plan,
+        _ => Reading::Deck(Mode::Script),
     }
 }
 
@@ -123,15 +124,15 @@ fn mode_of(args: &Args) -> Mode
 fn hint_of<'a>(
     alloc: Global,
     text: &'a [u8],
-    mode: Mode,
+    reading: Reading,
     ran: &Result<Report, Fault>,
 ) -> Option<Hint<'a>>
     requires { length text.now ≤ most_bytes }
-    ensures { IsHintOf mode text.now ran.now result }
+    ensures { IsHintOf reading text.now ran.now result }
 {
     match ran {
         Err(Fault::BadDeck { line, reason }) => {
-            match hint_for(alloc, text, mode, *line, *reason) {
+            match hint_for(alloc, text, reading, *line, *reason) {
                 Ok(hint) => hint,
                 Err(_) => None,
             }

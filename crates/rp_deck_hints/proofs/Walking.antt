@@ -5,7 +5,7 @@ use Rattle.std.specs.List.{prefix_len}
 use Rattle.std.proofs.lemmas.Bool.Decides.{nat_tests}
 use Rattle.std.proofs.Math.Nat.{le-suc_iff}
 use Rattle.rp_deck.specs.rp_base.specs.declared.fault.DeckReason.{DeckReason}
-use Rattle.rp_deck.specs.declared.deck.Mode.{Mode}
+use Rattle.rp_deck_hints.specs.declared.reading.Reading.{Reading}
 use Rattle.rp_deck_hints.specs.Places.{after_lines, after_words, before_word, first_line, length_before, line_at, line_start, through_word}
 use Rattle.rp_deck_hints.proofs.LinesAt.{line_after}
 use Rattle.rp_deck_hints.specs.Hints.{IsAtFault, IsBadAt, IsNoneAtFault}
@@ -40,23 +40,23 @@ low_or_high (suc a) (suc b) = ⊎_elim (λ low. inl (omega (arith, low))) (λ hi
 -- ---- the words of a line
 
 -- so many words were tried, and the text is bad up to none of them
-pub record HasTried (mode : Mode) (text : List ℕ) (line : ℕ) (reason : DeckReason)
+pub record HasTried (reading : Reading) (text : List ℕ) (line : ℕ) (reason : DeckReason)
     (all after : List ℕ) (words : ℕ) : Type 0 where
   pub after_is : after ≡ after_words (line_at text line) words
   pub shorter : length after ≤ length all
   pub none : (n : ℕ) → 1 ≤ n → n ≤ words
-      → ¬ IsBadAt mode line reason (through_word text line n)
+      → ¬ IsBadAt reading line reason (through_word text line n)
 
-module _ (mode : Mode) (text : List ℕ) (line : ℕ) (reason : DeckReason) (all : List ℕ) where
+module _ (reading : Reading) (text : List ℕ) (line : ℕ) (reason : DeckReason) (all : List ℕ) where
   -- no word is left, and the text is bad up to none of them
-  pub none_left : (after from : List ℕ) (words : ℕ) → HasTried mode text line reason all after words → from ≡ without_blanks after
-      → (length from == 0) ≡ true → IsNoneAtFault mode text line reason
+  pub none_left : (after from : List ℕ) (words : ℕ) → HasTried reading text line reason all after words → from ≡ without_blanks after
+      → (length from == 0) ≡ true → IsNoneAtFault reading text line reason
   none_left after from words tried from_is empty n one most there bad = ⊎_elim (tried.none n one) above (low_or_high n words) bad
     where
       at_end : is_at_end (after_words (line_at text line) words) ≡ true
       at_end = ap (λ bytes. length bytes == 0) (sym (from_is ∙ ap without_blanks tried.after_is)) ∙ empty
 
-      above : words < n → ¬ IsBadAt mode line reason (through_word text line n)
+      above : words < n → ¬ IsBadAt reading line reason (through_word text line n)
       above high bad =
           let sum : words + (n - 1 - words) ≡ n - 1 = omega (arith, high) in
           let stays = end_stays (line_at text line) words (n - 1 - words) at_end in
@@ -75,10 +75,10 @@ module _ (mode : Mode) (text : List ℕ) (line : ℕ) (reason : DeckReason) (all
         ∙ ap (λ a. take (line_start text line + (length a - length here)) text) line_is
         ∙ ap (λ x. take (line_start text line + length_before (line_at text line) x) text) same
 
-    pub begins : HasTried mode text line reason all all 0
+    pub begins : HasTried reading text line reason all all 0
     begins = record { after_is = line_is; shorter = omega arith; none = λ n one few bad. absurd (omega (arith, one, few)) }
 
-    module _ (after from : List ℕ) (words : ℕ) (tried : HasTried mode text line reason all after words) (from_is : from ≡ without_blanks after) where
+    module _ (after from : List ℕ) (words : ℕ) (tried : HasTried reading text line reason all after words) (from_is : from ≡ without_blanks after) where
       from_here : from ≡ without_blanks (after_words (line_at text line) words)
       from_here = from_is ∙ ap without_blanks tried.after_is
 
@@ -100,25 +100,25 @@ module _ (mode : Mode) (text : List ℕ) (line : ℕ) (reason : DeckReason) (all
         through_is = cut_is next _ next_there
 
         -- the text is not bad up to the next word either
-        pub goes_on : length next ≤ length all → ¬ IsBadAt mode line reason (take (length text - length rest + (length all - length next)) text)
-            → HasTried mode text line reason all next (words + 1)
+        pub goes_on : length next ≤ length all → ¬ IsBadAt reading line reason (take (length text - length rest + (length all - length next)) text)
+            → HasTried reading text line reason all next (words + 1)
         goes_on shorter right = record { after_is = next_there; shorter = shorter; none = none }
           where
-            none : (n : ℕ) → 1 ≤ n → n ≤ words + 1 → ¬ IsBadAt mode line reason (through_word text line n)
+            none : (n : ℕ) → 1 ≤ n → n ≤ words + 1 → ¬ IsBadAt reading line reason (through_word text line n)
             none n one few bad =
                 let within : n ≤ suc words = omega (arith, few) in
                 ⊎_elim (λ low. tried.none n one low bad) (λ last. at_last (omega (arith, last)) bad) (le-suc_iff.0 within)
               where
-                at_last : n ≡ words + 1 → ¬ IsBadAt mode line reason (through_word text line n)
-                at_last last bad = right (subst (IsBadAt mode line reason) (sym through_is) (subst (λ k. IsBadAt mode line reason (through_word text line k)) last bad))
+                at_last : n ≡ words + 1 → ¬ IsBadAt reading line reason (through_word text line n)
+                at_last last bad = right (subst (IsBadAt reading line reason) (sym through_is) (subst (λ k. IsBadAt reading line reason (through_word text line k)) last bad))
 
         -- or it is, so that the next word is at fault
         pub at_fault : (word : List ℕ) → word ≡ take (prefix_len (λ byte. not (is_blank byte)) from) from → (length from == 0) ≡ false
-            → IsBadAt mode line reason (take (length text - length rest + (length all - length next)) text)
-            → IsAtFault mode text line reason (words + 1) word
+            → IsBadAt reading line reason (take (length text - length rest + (length all - length next)) text)
+            → IsAtFault reading text line reason (words + 1) word
         at_fault word word_is some bad = record {
           there = ap (λ bytes. length bytes == 0) (sym from_there) ∙ some;
           word_is = word_is ∙ ap (λ bytes. take (prefix_len (λ byte. not (is_blank byte)) bytes) bytes) from_there;
-          bad = subst (IsBadAt mode line reason) through_is bad;
+          bad = subst (IsBadAt reading line reason) through_is bad;
           first = λ n one before. tried.none n one (omega (arith, before));
         }

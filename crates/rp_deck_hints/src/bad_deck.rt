@@ -1,22 +1,25 @@
-//! A deck that is bad at a line for a reason, and which word of the line is at fault.
+//! A text that is bad at a line for a reason, and which word of the line is at fault.
 
 ghost use Rattle.std.specs.Prelude.{◌≡◌, ◌+◌, ◌^◌, ◌<◌, ◌++◌, ◌↔◌, IsTrue, length, IfOk, IfErr, IfSome, IfNone};
 ghost use Rattle.rp_deck_hints.specs.Places.{before_word};
 ghost use Rattle.rp_deck_hints.specs.Hints.{IsBadAt, IsAtFault, IsNoneAtFault};
+ghost use Rattle.rp_deck_hints.specs.declared.reading.Reading.TheVariants.{Deck, Plan};
 
+use crate::Reading;
 use crate::places::{after_lines, first_line, from_word, split_word};
 use rp_base::{DeckReason, Fault};
 use rp_deck::{Mode, read_deck};
+use rp_explore_deck::read_plan;
 use std::alloc::Global;
 
 /// The most words of a line that are tried.
 pub const MOST_WORDS: u32 = 64;
 
-/// A line at which a text is bad in a mode, and its reason.
+/// A line at which a text is bad as it is read, and its reason.
 #[derive(Clone, Copy)]
 pub struct BadLine<'a> {
     pub text: &'a [u8],
-    pub mode: Mode,
+    pub reading: Reading,
     /// From 1.
     pub line: u32,
     pub reason: DeckReason,
@@ -37,10 +40,39 @@ impl<'a> BadLine<'a> {
     fn is_of(&self, alloc: Global, text: &[u8]) -> Result<bool, Fault>
         requires { length text.now + 1 < 2 ^ 32 }
         ensures bad { IfOk result (λ bad. IsTrue bad
-            ↔ IsBadAt self.now.mode self.now.line self.now.reason text.now) }
+            ↔ IsBadAt self.now.reading self.now.line self.now.reason text.now) }
         ensures memory { IfErr result (λ fault. fault ≡ Fault.OutOfMemory) }
     {
-        match read_deck(alloc, text, self.mode).err() {
+        match self.reading {
+            Reading::Deck(mode) => self.is_of_deck(alloc, text, mode),
+            Reading::Plan => self.is_of_plan(alloc, text),
+        }
+    }
+
+    /// The same of a deck that runs in a mode.
+    fn is_of_deck(&self, alloc: Global, text: &[u8], mode: Mode) -> Result<bool, Fault>
+        requires { length text.now + 1 < 2 ^ 32 }
+        ensures bad { IfOk result (λ bad. IsTrue bad
+            ↔ IsBadAt (Deck mode) self.now.line self.now.reason text.now) }
+        ensures memory { IfErr result (λ fault. fault ≡ Fault.OutOfMemory) }
+    {
+        match read_deck(alloc, text, mode).err() {
+            None => Ok(false),
+            Some(Fault::BadDeck { line, reason }) => {
+                Ok(line == self.line && reason == self.reason)
+            }
+            Some(_) => Err(Fault::OutOfMemory),
+        }
+    }
+
+    /// The same of a deck for a search.
+    fn is_of_plan(&self, alloc: Global, text: &[u8]) -> Result<bool, Fault>
+        requires { length text.now + 1 < 2 ^ 32 }
+        ensures bad { IfOk result (λ bad. IsTrue bad
+            ↔ IsBadAt Plan self.now.line self.now.reason text.now) }
+        ensures memory { IfErr result (λ fault. fault ≡ Fault.OutOfMemory) }
+    {
+        match read_plan(alloc, text).err() {
             None => Ok(false),
             Some(Fault::BadDeck { line, reason }) => {
                 Ok(line == self.line && reason == self.reason)
@@ -53,12 +85,12 @@ impl<'a> BadLine<'a> {
     pub fn word_at_fault(&self, alloc: Global) -> Result<Option<Place<'a>>, Fault>
         requires { length self.now.text.now + 1 < 2 ^ 32 }
         ensures found { IfOk result (λ found. IfSome found (λ place.
-            IsAtFault self.now.mode self.now.text.now self.now.line self.now.reason place.number
+            IsAtFault self.now.reading self.now.text.now self.now.line self.now.reason place.number
             place.word.now)) }
         ensures before { IfOk result (λ found. IfSome found (λ place. place.before.now
             ≡ before_word self.now.text.now self.now.line place.number)) }
         ensures none { IfOk result (λ found. IfNone found
-            (IsNoneAtFault self.now.mode self.now.text.now self.now.line self.now.reason)) }
+            (IsNoneAtFault self.now.reading self.now.text.now self.now.line self.now.reason)) }
         ensures memory { IfErr result (λ fault. fault ≡ Fault.OutOfMemory) }
     {
         let rest = after_lines(self.text, self.line.saturating_sub(1));
@@ -88,7 +120,7 @@ impl<'a> BadLine<'a> {
     /// Whether these bytes are not bad at this line for this reason with a word after them.
     pub fn is_helped_by(&self, alloc: Global, before: &[u8], word: &str) -> Result<bool, Fault>
         ensures helped { IfOk result (λ helped. IsTrue helped
-            → ¬ IsBadAt self.now.mode self.now.line self.now.reason (before.now ++ word.now)) }
+            → ¬ IsBadAt self.now.reading self.now.line self.now.reason (before.now ++ word.now)) }
         ensures memory { IfErr result (λ fault. fault ≡ Fault.OutOfMemory) }
     {
         let mut text = Vec::new(alloc);

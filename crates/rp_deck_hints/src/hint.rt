@@ -2,12 +2,16 @@
 
 ghost use Rattle.std.specs.Prelude.{Some, ◌≡◌, ◌≤◌, ◌+◌, ◌^◌, ◌<◌, length, string_bytes, option_map, IfOk, IfErr, IfSome, IfNone, if◌then◌else◌};
 ghost use Rattle.std.specs.List.{list_all};
-ghost use Rattle.rp_deck_hints.specs.Hints.{IsHint, IsNear, IsNotHinted, hint_text, is_graphic, is_printed, names_a_word};
+ghost use Rattle.rp_deck_hints.specs.Hints.{IsHint, IsNear, IsNotHinted, advised_text, hint_text, begins_guard, is_graphic, is_of_guard, is_printed, names_a_word};
 
+use crate::Reading;
+use crate::advice::Advice;
+use crate::advice_of::advice_of;
 use crate::bad_deck::{BadLine, Place};
 use crate::candidates::{MOST_EDITS, candidates};
+use crate::places::word_one;
 use rp_base::{DeckReason, Fault};
-use rp_deck::Mode;
+use rp_words::is_word;
 use std::alloc::Global;
 use std::{fmt, str};
 use strsim::levenshtein;
@@ -22,13 +26,15 @@ pub struct Hint<'a> {
     pub number: u32,
     pub word: &'a [u8],
     pub near: Option<String>,
+    /// What to write there.
+    pub advice: Option<Advice>,
 }
 
 /// The hint for a deck that is bad at a line for a reason, if the reason is one of a word.
 pub fn hint_for(
     alloc: Global,
     text: &[u8],
-    mode: Mode,
+    reading: Reading,
     line: u32,
     reason: DeckReason,
 ) -> Result<Option<Hint<'_>>, Fault>
@@ -36,11 +42,12 @@ pub fn hint_for(
     // claim (hint): The word that a hint names is the first of the line up to whose end the deck is
     //   bad already at this line for this reason. The near word that it proposes is at most two
     //   edits from that word, and with it in place of the word the deck up to there is no longer bad
-    //   at this line for this reason
-    ensures hint { IfOk result (λ hint. IfSome hint (IsHint mode text.now line reason)) }
-    // claim (none, memory): There is no hint exactly where the reason is not one of a word, or no word
-    //   among the first 64 of the line is at fault
-    ensures none { IfOk result (λ hint. IfNone hint (IsNotHinted mode text.now line reason)) }
+    //   at this line for this reason. What it says to write is what a table has for the reason, the
+    //   first word of the line and the place of the word
+    ensures hint { IfOk result (λ hint. IfSome hint (IsHint reading text.now line reason)) }
+    // claim (none, memory): There is no hint exactly where the reason is not one of a word, no word
+    //   among the first 64 of the line is at fault, or it is one of a guard but its first
+    ensures none { IfOk result (λ hint. IfNone hint (IsNotHinted reading text.now line reason)) }
     ensures memory { IfErr result (λ fault. fault ≡ Fault.OutOfMemory) }
 {
     if !names_a_word(reason) {
@@ -48,18 +55,23 @@ pub fn hint_for(
     }
     let bad = BadLine {
         text,
-        mode,
+        reading,
         line,
         reason,
     };
     let Some(place) = bad.word_at_fault(alloc)? else {
         return Ok(None);
     };
+    let first = word_one(text, line);
+    if is_of_guard(reading, first, place.number) {
+        return Ok(None);
+    }
     let near = near_word(alloc, &bad, &place)?;
     Ok(Some(Hint {
         number: place.number,
         word: place.word,
         near,
+        advice: advice_of(reason, first, place.number),
     }))
 }
 
@@ -74,13 +86,33 @@ fn names_a_word(reason: DeckReason) -> bool
             | DeckReason::BadNumber
             | DeckReason::BadName
             | DeckReason::DuplicateName
+            | DeckReason::NodesExpected
+            | DeckReason::NotInLive
     )
+}
+
+/// Whether the word of this number is one of a guard, which may be at fault as a whole: it has no
+/// call.
+fn is_of_guard(reading: Reading, first: &[u8], number: u32) -> bool
+    ensures { result ≡ is_of_guard reading first.now number }
+{
+    match reading {
+        Reading::Deck(_) => false,
+        Reading::Plan => begins_guard(first) && 1 < number,
+    }
+}
+
+/// Whether a line that begins with this word is a guard.
+fn begins_guard(first: &[u8]) -> bool
+    ensures { result ≡ begins_guard first.now }
+{
+    is_word(first, b"when") || is_word(first, b"unless")
 }
 
 /// A near word, if the word is printed and one is known to help.
 fn near_word(alloc: Global, bad: &BadLine<'_>, place: &Place<'_>) -> Result<Option<String>, Fault>
     requires { length place.now.before.now + 1 < 2 ^ 32 }
-    ensures near { IfOk result (λ near. IfSome near (λ near. IsNear bad.now.mode bad.now.line
+    ensures near { IfOk result (λ near. IfSome near (λ near. IsNear bad.now.reading bad.now.line
         bad.now.reason place.now.before.now place.now.word.now (string_bytes near))) }
     ensures memory { IfErr result (λ fault. fault ≡ Fault.OutOfMemory) }
 {
@@ -107,7 +139,7 @@ impl Search<'_> {
     /// The candidate of the fewest edits that is known to help, and the first of those.
     fn nearest(&self, alloc: Global) -> Result<Option<String>, Fault>
         requires { length self.now.before.now + 1 < 2 ^ 32 }
-        ensures near { IfOk result (λ near. IfSome near (λ near. IsNear self.now.bad.mode
+        ensures near { IfOk result (λ near. IfSome near (λ near. IsNear self.now.bad.reading
             self.now.bad.line self.now.bad.reason self.now.before.now self.now.word.now
             (string_bytes near))) }
         ensures memory { IfErr result (λ fault. fault ≡ Fault.OutOfMemory) }
@@ -129,7 +161,7 @@ impl Search<'_> {
         edits: usize,
     ) -> Result<Option<String>, Fault>
         requires { edits ≤ 2 }
-        ensures near { IfOk result (λ near. IfSome near (λ near. IsNear self.now.bad.mode
+        ensures near { IfOk result (λ near. IfSome near (λ near. IsNear self.now.bad.reading
             self.now.bad.line self.now.bad.reason self.now.before.now self.now.word.now
             (string_bytes near))) }
         ensures memory { IfErr result (λ fault. fault ≡ Fault.OutOfMemory) }
@@ -181,14 +213,37 @@ fn printed(word: &[u8]) -> Option<&str>
     Some(unsafe { str::from_utf8_unchecked(word) })
 }
 
+/// What to write, as it is said after a word.
+#[derive(Clone, Copy)]
+struct Advised {
+    advice: Option<Advice>,
+}
+
+impl fmt::Display for Advised {
+    ghost output = { λ l. Some (advised_text l.advice) };
+
+    fn fmt<W: fmt::Write>(&self, f: &mut fmt::Formatter<W>) -> fmt::Result {
+        match self.advice {
+            None => Ok(()),
+            Some(advice) => {
+                let text = advice.text();
+                write!(f, "; {text}")
+            }
+        }
+    }
+}
+
 impl fmt::Display for Hint<'_> {
     ghost output = { λ hint. Some (hint_text hint) };
 
     fn fmt<W: fmt::Write>(&self, f: &mut fmt::Formatter<W>) -> fmt::Result {
         let number = self.number;
+        let advised = Advised {
+            advice: self.advice,
+        };
         match (printed(self.word), &self.near) {
-            (None, _) => write!(f, "it is word {number} of the line"),
-            (Some(word), None) => write!(f, "the word is {word}"),
+            (None, _) => write!(f, "it is word {number} of the line{advised}"),
+            (Some(word), None) => write!(f, "the word is {word}{advised}"),
             (Some(word), Some(near)) => write!(f, "the word is {word}; did you mean {near}?"),
         }
     }

@@ -2,7 +2,7 @@
 
 ghost use Rattle.std.specs.Prelude.{◌≡◌, ◌≤◌, drop, length, not, take};
 ghost use Rattle.std.specs.List.{prefix_len};
-ghost use Rattle.rp_deck_hints.specs.Places.{after_line, after_lines, first_line};
+ghost use Rattle.rp_deck_hints.specs.Places.{after_line, after_lines, first_line, word_at};
 ghost use Rattle.rp_deck.specs.rp_words.specs.LineEnds.{line_end, without_return};
 ghost use Rattle.rp_deck.specs.rp_words.specs.Words.{is_blank, without_blanks};
 
@@ -98,4 +98,13 @@ pub fn split_word(bytes: &[u8]) -> (&[u8], &[u8])
     ensures within { length result.1.now ≤ length bytes.now }
 {
     bytes.split_at(length_of_word(bytes))
+}
+
+/// The first word of the line of this number.
+pub fn word_one(text: &[u8], line: u32) -> &[u8]
+    ensures { result.now ≡ word_at text.now line 1 }
+{
+    let line = first_line(after_lines(text, line.saturating_sub(1)));
+    let (word, _) = split_word(from_word(line));
+    word
 }

@@ -1,34 +1,94 @@
-"""The wrong bodies of the crates: texts that each say which function becomes wrong, and how."""
+"""The wrong bodies of the crates: texts that each say which function becomes wrong, and how.
+
+A crate has those that `rt ci` tries in must-fail/*.edit, and all others in must-fail/WRONG.md, a section each, named
+crates/CRATE/must-fail/WRONG.md#NAME here:
+
+    ## NAME
+
+    Tried in each gate.
+    System: a wrong system that it makes, as docs/made/REFUSED.md says it
+    Refused by: the clause or law that refuses this system
+    With: NAME, or CRATE#NAME: the section that says so for this one too
+
+        file: src/acceptor.rt
+        old: a text that occurs once in that file
+        new: what stands there then
+
+Each line of these may be absent but for those of the changes; other lines say what the change does."""
+import functools
 import os
 import re
+from typing import NamedTuple, Optional
 
-FOLDERS = ("must-fail/gate", "must-fail")
+
+class WrongBody(NamedTuple):
+    """A section of a WRONG.md, or an edit."""
+
+    name: str
+    changes: list
+    in_each_gate: bool = False
+    system: Optional[str] = None
+    refused_by: Optional[str] = None
+    joined: Optional[str] = None
+
+
+def body_of(name, lines):
+    """The wrong body that these lines say."""
+    changes, said, file, old = [], {}, None, None
+    for line in lines:
+        kind, _, text = line.removeprefix("    ").partition(": ")
+        if kind == "file":
+            file = text
+        elif kind == "old":
+            old = text
+        elif kind in ("new", "new:"):
+            changes.append((file, old, text))
+        else:
+            said[kind] = text
+    return WrongBody(name, changes, "Tried in each gate." in said, said.get("System"), said.get("Refused by"), said.get("With"))
+
+
+@functools.cache
+def sections(path):
+    """The sections of a WRONG.md by name."""
+    found = {}
+    with open(path) as file:
+        for section in re.split(r"(?m)^## ", file.read())[1:]:
+            name, *lines = section.rstrip("\n").split("\n")
+            found[name] = body_of(name, lines)
+    return found
+
+
+def wrong_body(path):
+    """The wrong body of this path."""
+    file, _, name = path.partition("#")
+    if name:
+        return sections(file)[name]
+    with open(file) as its:
+        return body_of(os.path.basename(file), its.read().split("\n"))
 
 
 def wrong_bodies_of(word):
-    """The wrong bodies of a crate, or the one of this path, each with its crate."""
-    if os.path.isfile(word):
-        return [(word.split("/")[1], word)]
-    found = []
-    for folder in (f"crates/{word}/{it}" for it in FOLDERS):
-        names = sorted(os.listdir(folder)) if os.path.isdir(folder) else []
-        found += [(word, f"{folder}/{it}") for it in names if it.endswith((".edit", ".md"))]
-    return found
+    """The wrong bodies of a crate, or the one of CRATE#NAME or of a path, each with its crate."""
+    crate, _, name = word.partition("#")
+    folder = f"crates/{crate}/must-fail"
+    if crate.startswith("crates/"):
+        return [(crate.split("/")[1], word)]
+    if name:
+        return [(crate, f"{folder}/WRONG.md#{name}")]
+    edits = [it for it in sorted(os.listdir(folder)) if it.endswith(".edit")] if os.path.isdir(folder) else []
+    named = sections(f"{folder}/WRONG.md") if os.path.exists(f"{folder}/WRONG.md") else []
+    return [*((crate, f"{folder}/WRONG.md#{it}") for it in named), *((crate, f"{folder}/{it}") for it in edits)]
+
+
+def is_in_each_gate(path):
+    """Whether each gate tries the wrong body."""
+    return wrong_body(path).in_each_gate
 
 
 def changes(path):
     """The changes of a wrong body: file, old text and new text."""
-    found, file, old = [], None, None
-    with open(path) as its:
-        for line in its:
-            kind, _, text = line.rstrip("\n").partition(": ")
-            if kind == "file":
-                file = text
-            elif kind == "old":
-                old = text
-            elif kind in ("new", "new:"):
-                found.append((file, old, text))
-    return found
+    return wrong_body(path).changes
 
 
 def make(folder, found):

@@ -1,2 +1,4 @@
 pub mod Turns
 pub mod Figures
+pub mod Links
+pub mod Audits

@@ -22,7 +22,7 @@ pub use calls::each_call_is_made_by_its_task;
 pub use figures::figures_are_sums;
 pub use links::{a_link_passes_on_what_it_holds, each_party_has_a_link_of_its_own};
 pub use notes::notes_are_those_of_the_model;
-pub use reports::{boxes_are_apart, reports_add_up};
+pub use reports::{all_is_known_of_each_node, boxes_are_apart, reports_add_up};
 pub use turns::{
     a_task_asks_every_node, each_node_leads_at_its_own_times, every_box_is_emptied,
     turns_count_by_their_kinds,

@@ -1,11 +1,13 @@
 //! What the link of a party holds and passes on.
 
-ghost use Rattle.std.specs.Prelude.{◌≡◌, ◌≢◌, ◌+◌, ◌^◌, ◌<◌, ℕ, Some, None, List, [], ◌∷◌, ◌++◌, length};
+ghost use Rattle.std.specs.Prelude.{◌≡◌, ◌%◌, ◌^◌, ◌<◌, ℕ, Some, None, List, [], ◌∷◌, ◌++◌, length, take, slice_get};
 ghost use Rattle.rp_threads.specs.rp_codec.specs.Message.{IsParty};
 ghost use Rattle.rp_threads.specs.rp_codec.specs.declared.packet.Party.{Party};
-ghost use Rattle.rp_threads.specs.rp_tasks.specs.Line.{Line, word_of, copies_of};
+ghost use Rattle.rp_threads.specs.rp_tasks.specs.Line.{Line};
+ghost use Rattle.rand_chacha.specs.ChaCha.{next_word};
 ghost use Rattle.rp_threads.specs.Lines.{line_with, given_on, line_after};
 ghost use Rattle.rp_live.specs.Lines.{party_line};
+ghost use Rattle.rp_thread_laws.specs.Links.{copies_by_word};
 
 /// Links lose, repeat and reorder packets by their words. Those of two parties, or of runs with two
 /// seeds, follow from different keys.
@@ -18,14 +20,14 @@ pub fn each_party_has_a_link_of_its_own()
         → (seed ≡ other) × (one ≡ two) }
 {}
 
-/// A link takes each packet that is fetched, and passes on one packet a turn, as long as it holds
-/// one.
+/// A link takes a packet that is fetched at fourteen of sixteen words, and passes on one packet a
+/// turn, as long as it holds one.
 pub fn a_link_passes_on_what_it_holds()
-    // claim (takes): A packet of which a link makes one copy goes after those that it holds, if
-    //   these are fewer than 16
-    ensures takes { (line : Line) (packet : List ℕ)
-        → length line.held < 16 → copies_of (word_of line) ≡ 1
-        → (line_with (Some packet) line).held ≡ line.held ++ packet ∷ [] }
+    // claim (takes): At two of sixteen words a link loses the packet that is fetched, at two it takes
+    //   it twice, and at twelve once; what finds no place among 16 is lost
+    ensures takes { (line : Line) (packet : List ℕ) (copies : List (List ℕ))
+        → slice_get (copies_by_word packet) ((next_word 10 line.words).0 % 16) ≡ Some copies
+        → (line_with (Some packet) line).held ≡ take 16 (line.held ++ copies) }
     // claim (passes_on, holds_none): A link that holds a packet passes one of them on and keeps the
     //   others, in order; one that holds none passes none on
     ensures passes_on { (line : Line) → 0 < length line.held

@@ -141,8 +141,9 @@ module _ (one other : Text → Option Text) (same : (option : Text) → one opti
   pub is_chart_by : (request : ChartRequest) → IsChartRequest one request → IsChartRequest other request
   is_chart_by request is = record {
     view = is_view_by request.view is.view;
-    page = λ e. is.page (same (codes "html") ∙ e);
-    drawing = λ e. is.drawing (same (codes "html") ∙ e);
+    calls = λ e. is.calls (same (codes "calls") ∙ e);
+    page = λ e f. is.page (same (codes "calls") ∙ e) (same (codes "html") ∙ f);
+    drawing = λ e f. is.drawing (same (codes "calls") ∙ e) (same (codes "html") ∙ f);
   }
 
   -- and they ask for the same search

@@ -13,7 +13,7 @@ use Rattle.rp_bind.specs.declared.lines.Language.TheVariants as languages
 use Rattle.rp_explore_deck.specs.declared.request.ExploreRequest.{ExploreRequest}
 use Rattle.rp_history.specs.declared.view.View.{View}
 use Rattle.rp_history.specs.declared.view.ChartRequest.{ChartRequest}
-use Rattle.rp_history.specs.declared.page.Form.TheVariants.{Drawing, Page}
+use Rattle.rp_history.specs.declared.page.Form.TheVariants.{Drawing, Page, Calls}
 use Rattle.rp_command_line.specs.declared.args.Args.{Args}
 use Rattle.rp_command_line.specs.declared.args.Args.TheVariants.{Script, Live, Chart, Explore, Bind}
 
@@ -87,9 +87,14 @@ chart_of_part =
 abbrev pub html_option : Rule
 html_option = record (new_rule (codes "html")) { long = Some (codes "html"); action = Some SetTrue }
 
--- the subcommand `chart`, with its five options
+-- the option `--calls`
+abbrev pub calls_option : Rule
+calls_option =
+    record (new_rule (codes "calls")) { long = Some (codes "calls"); action = Some SetTrue }
+
+-- the subcommand `chart`, with its six options
 abbrev pub chart : App
-chart = with_rule chart_of_part html_option
+chart = with_rule (with_rule chart_of_part html_option) calls_option
 
 -- the option `--states`
 abbrev pub states : Rule
@@ -191,11 +196,15 @@ pub record IsView (value : Text → Option Text) (view : View) : Type 0 where
   pub to_end : value (codes "to") ≡ None → view.to ≡ None
   pub to : (number : ℕ) → ReadsAs 32 (value (codes "to")) number → view.to ≡ Some number
 
--- What the values of these options make of a run: that part of it, as a page or as a drawing.
+-- What the values of these options make of a run: that part of it, as a page that shows calls and
+-- replies alone at first, as another page, or as a drawing.
 pub record IsChartRequest (value : Text → Option Text) (request : ChartRequest) : Type 0 where
   pub view : IsView value request.view
-  pub page : value (codes "html") ≡ Some (codes "true") → request.form ≡ Page
-  pub drawing : value (codes "html") ≡ Some (codes "false") → request.form ≡ Drawing
+  pub calls : value (codes "calls") ≡ Some (codes "true") → request.form ≡ Calls
+  pub page : value (codes "calls") ≡ Some (codes "false")
+      → value (codes "html") ≡ Some (codes "true") → request.form ≡ Page
+  pub drawing : value (codes "calls") ≡ Some (codes "false")
+      → value (codes "html") ≡ Some (codes "false") → request.form ≡ Drawing
 
 -- The search that the values of these options ask for: at most how many states it finds, and the
 -- outcome of which a deck is printed, if one is.

@@ -3,7 +3,7 @@
 ghost use Rattle.std.specs.Prelude.{◌≡◌, ℕ, None, Some, true, false, codes, IfOk, map, option_map};
 ghost use Rattle.clap.specs.Words.{app_of, rule_of, subcommand_of, fault_of, found_of, one_text, FailsBy};
 ghost use Rattle.clap.specs.declared.builder.command.Command.TheViews.{out-Command};
-ghost use Rattle.rp_command_line.specs.CommandLine.{ada_option, bind, bind_option, c_option, chart, chart_option, console, count_option, explore, explore_option, hide_self_option, html_option, live, local_option, subcommand_word, position_option, script, seed, seed_of, states, trace_of, turns, turns_of, IsChartRequest, IsLanguage, IsRequest, IsView, ReadsAs};
+ghost use Rattle.rp_command_line.specs.CommandLine.{ada_option, bind, bind_option, c_option, chart, chart_option, console, count_option, explore, explore_option, calls_option, hide_self_option, html_option, live, local_option, subcommand_word, position_option, script, seed, seed_of, states, trace_of, turns, turns_of, IsChartRequest, IsLanguage, IsRequest, IsView, ReadsAs};
 
 use crate::words::VERSION;
 use clap::{Arg, ArgAction, ArgMatches, Command, Error, value_parser};
@@ -47,6 +47,7 @@ pub fn command<'a>(alloc: Global) -> Result<Command<'a>, AllocError>
     let explore = explore_command(alloc)?;
     let bind = bind_command(alloc)?;
     Command::new(alloc, "rp_console")
+        .bin_name("rp_console")?
         .about("Runs a program of tasks and objects on a cluster of nodes in memory")
         .after_help("Example: rp_console script < DECK; decks are described in docs/DECK.md")
         .version(VERSION)
@@ -108,7 +109,8 @@ fn chart_command<'a>(alloc: Global) -> Result<Command<'a>, AllocError>
             "to",
             "Draws only the moments up to number N, 1 to 4294967295",
         ))?
-        .arg(html_option(alloc))
+        .arg(html_option(alloc))?
+        .arg(calls_option(alloc))
 }
 
 /// The subcommand `explore`.
@@ -216,6 +218,17 @@ fn html_option<'a>(alloc: Global) -> Arg<'a>
     Arg::new(alloc, "html")
         .long("html")
         .help("Prints a page with the drawing and the state after each moment")
+        .action(ArgAction::SetTrue)
+}
+
+/// The option `--calls`.
+fn calls_option<'a>(alloc: Global) -> Arg<'a>
+    ensures rule { rule_of result ≡ calls_option }
+    ensures local { result.global ≡ false }
+{
+    Arg::new(alloc, "calls")
+        .long("calls")
+        .help("Prints the page with calls, the order of actions and replies alone at first")
         .action(ArgAction::SetTrue)
 }
 
@@ -332,7 +345,9 @@ fn language_of(found: &ArgMatches<'_>) -> Language
 fn chart_of(found: &ArgMatches<'_>) -> ChartRequest
     ensures { IsChartRequest (one_text (found_of found.now)) result }
 {
-    let form = if found.get_flag("html") {
+    let form = if found.get_flag("calls") {
+        Form::Calls
+    } else if found.get_flag("html") {
         Form::Page
     } else {
         Form::Drawing

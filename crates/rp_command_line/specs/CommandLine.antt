@@ -1,13 +1,17 @@
 -- The command line.
-use Rattle.std.specs.Prelude.{◌≡◌, ℕ, ◌^◌, ◌<◌, true, false, Option, Some, None, List, [], ◌∷◌, pos}
+use Rattle.std.specs.Prelude.{◌≡◌, ◌⊎◌, ℕ, ◌^◌, ◌<◌, true, false, Option, Some, None, List, [], ◌∷◌}
+use Rattle.std.specs.Prelude.{pos}
 use Rattle.std.specs.Prelude.{codes, option_and_then, if◌then◌else◌}
 use Rattle.std.specs.Str.{bytes_eq}
 use Rattle.std.specs.Str.Parse.{IsNumeral, digits_value, without_leading_plus}
-use Rattle.clap.specs.Words.{App, Rule, Shape, Text, new_app, new_rule, one_of, subcommand_of}
+use Rattle.clap.specs.Kinds.{IsAmong}
+use Rattle.clap.specs.Words.{App, Rule, Shape, Text, fault_of, new_app, new_rule, one_of, subcommand_of}
 use Rattle.clap.specs.Words.{with_rule, with_subcommand}
 use Rattle.clap.specs.Simple.{on_top}
 use Rattle.clap.specs.declared.builder.action.ArgAction.TheVariants.{SetTrue}
 use Rattle.clap.specs.declared.builder.value_parser.ValueParser.TheVariants.{Signed}
+use Rattle.clap.specs.declared.error.kind.ErrorKind.{ErrorKind}
+use Rattle.clap.specs.declared.error.kind.ErrorKind.TheVariants as kinds
 use Rattle.rp_bind.specs.declared.lines.Language.{Language}
 use Rattle.rp_bind.specs.declared.lines.Language.TheVariants as languages
 use Rattle.rp_explore_deck.specs.declared.request.ExploreRequest.{ExploreRequest}
@@ -213,11 +217,25 @@ pub record IsRequest (value : Text → Option Text) (request : ExploreRequest) :
   pub no_deck : value (codes "deck") ≡ None → request.deck ≡ None
   pub deck : (number : ℕ) → ReadsAs 32 (value (codes "deck")) number → request.deck ≡ Some number
 
--- What the values of these options choose: a header of C by `--c`; else the body of a package of Ada
--- by `--local`, and its specification without it.
+-- What the values of these options choose: a header of C by `--c`, with which no package of Ada is
+-- chosen; else the body of a package of Ada by `--local`, and its specification without it.
 pub record IsLanguage (value : Text → Option Text) (language : Language) : Type 0 where
   pub c : value (codes "c") ≡ Some (codes "true") → language ≡ languages.C
+  pub no_ada : value (codes "c") ≡ Some (codes "true") → value (codes "ada") ≡ Some (codes "true") → ⊥
+  pub no_local : value (codes "c") ≡ Some (codes "true") → value (codes "local") ≡ Some (codes "true")
+      → ⊥
   pub local : value (codes "c") ≡ Some (codes "false") → value (codes "local") ≡ Some (codes "true")
       → language ≡ languages.Local
   pub ada : value (codes "c") ≡ Some (codes "false") → value (codes "local") ≡ Some (codes "false")
       → language ≡ languages.Ada
+
+-- these values choose a header of C, and a package of Ada with it
+pub record ChooseBoth (value : Text → Option Text) : Type 0 where
+  pub c : value (codes "c") ≡ Some (codes "false") → ⊥
+  pub ada : value (codes "ada") ≡ Some (codes "false") → value (codes "local") ≡ Some (codes "false") → ⊥
+
+-- the words are refused for this: as clap refuses them, or since they choose both languages
+abbrev pub AreRefusedFor : List Text → ErrorKind → Type 0
+AreRefusedFor words kind =
+    (kind ≡ kinds.OutOfMemory) ⊎ (IsAmong kind (fault_of console words)
+    ⊎ ((kind ≡ kinds.ArgumentConflict) × ChooseBoth (bind_option words)))

@@ -2,10 +2,8 @@
 use Rattle.std.specs.Prelude.{◌≡◌, ◌⊎◌, ℕ, true, false, Option, Some, None, Result, Ok, Err}
 use Rattle.std.specs.Prelude.{List, [], ◌++◌, codes, option_map, IfOk, IfErr, IfSome, OnErr}
 use Rattle.std.specs.Prelude.{string_bytes}
-use Rattle.clap.specs.Kinds.{IsAmong}
 use Rattle.clap.specs.Words.{Text, fault_of, subcommand_of}
 use Rattle.clap.specs.declared.error.kind.ErrorKind.{ErrorKind}
-use Rattle.clap.specs.declared.error.kind.ErrorKind.TheVariants.{OutOfMemory}
 use Rattle.rp_deck_hints.specs.rp_base.specs.declared.fault.Fault.{Fault}
 use Rattle.rp_deck_hints.specs.rp_base.specs.declared.fault.Fault.TheVariants.{BadDeck, Io}
 use Rattle.rp_deck_hints.specs.declared.reading.Reading.{Reading}
@@ -26,7 +24,7 @@ use Rattle.rp_history.specs.declared.view.ChartRequest.{ChartRequest}
 use Rattle.rp_bind_run.specs.rp_script.specs.Agreeing.{ScriptBegins, ScriptPrints}
 use Rattle.rp_command_line.specs.CommandLine.{bind_option, chart_option, console, explore_option}
 use Rattle.rp_command_line.specs.CommandLine.{seed_of, subcommand_word, trace_of, turns_of}
-use Rattle.rp_command_line.specs.CommandLine.{IsChartRequest, IsLanguage, IsRequest, ReadsAs}
+use Rattle.rp_command_line.specs.CommandLine.{AreRefusedFor, IsChartRequest, IsLanguage, IsRequest, ReadsAs}
 use Rattle.rp_command_line.specs.RefusedWords.{RefusesAs}
 use Rattle.rp_live_run.specs.Figures.{figures_line_of}
 use Rattle.rp_bind_run.specs.rp_script.specs.Given.{FailsRun}
@@ -215,5 +213,5 @@ abbrev pub FollowsWords : List Text → Content → Content → Content → Cont
 FollowsWords words given output output_after errors errors_after ending =
     ((args : Args) × AsksFor words args
     × EndsAs args given output output_after errors errors_after ending)
-    ⊎ ((kind : ErrorKind) × ((kind ≡ OutOfMemory) ⊎ IsAmong kind (fault_of console words))
+    ⊎ ((kind : ErrorKind) × AreRefusedFor words kind
     × RefusesAs kind output output_after errors errors_after ending)

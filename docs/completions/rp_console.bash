@@ -7,7 +7,7 @@ _rp_console() {
     case ${COMP_WORDS[1]} in
         script) words=" --trace -h --help " ;;
         live) words=" --seed --turns -h --help " ;;
-        chart) words=" --position --hide-self --from --to --html --calls -h --help " ;;
+        chart) words=" --position --hide-self --from --to --html -h --help " ;;
         explore) words=" --states --deck -h --help " ;;
         bind) words=" --ada --local --c -h --help " ;;
         *) words=" script live chart explore bind -h --help -V --version " ;;

@@ -17,7 +17,6 @@ complete -c rp_console -n '__fish_seen_subcommand_from chart' -l hide-self -d 'D
 complete -c rp_console -n '__fish_seen_subcommand_from chart' -l from -x -d 'Draws only the moments from number N on, 1 to 4294967295'
 complete -c rp_console -n '__fish_seen_subcommand_from chart' -l to -x -d 'Draws only the moments up to number N, 1 to 4294967295'
 complete -c rp_console -n '__fish_seen_subcommand_from chart' -l html -d 'Prints a page with the drawing and the state after each moment'
-complete -c rp_console -n '__fish_seen_subcommand_from chart' -l calls -d 'Prints the page with calls, the order of actions and replies alone at first'
 complete -c rp_console -n '__fish_seen_subcommand_from chart' -s h -l help -d 'Print help'
 complete -c rp_console -n '__fish_seen_subcommand_from explore' -l states -x -d 'At most how many states are found, 1 to 10000000 [default: 1000000]'
 complete -c rp_console -n '__fish_seen_subcommand_from explore' -l deck -x -d 'Prints a deck for script that shows outcome N, 1 to 4294967295'

@@ -23,7 +23,6 @@ _rp_console() {
                 '--from[Draws only the moments from number N on, 1 to 4294967295]:N:' \
                 '--to[Draws only the moments up to number N, 1 to 4294967295]:N:' \
                 '--html[Prints a page with the drawing and the state after each moment]' \
-                '--calls[Prints the page with calls, the order of actions and replies alone at first]' \
                 '-h[Print help]' \
                 '--help[Print help]' ;;
             explore) _arguments '--states[At most how many states are found, 1 to 10000000 (default: 1000000)]:S:' \

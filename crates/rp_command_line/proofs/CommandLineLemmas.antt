@@ -17,10 +17,7 @@ use Rattle.rp_bind.specs.declared.lines.Language.{Language}
 use Rattle.rp_explore_deck.specs.declared.request.ExploreRequest.{ExploreRequest}
 use Rattle.rp_history.specs.declared.view.View.{View}
 use Rattle.rp_history.specs.declared.view.ChartRequest.{ChartRequest}
-use Rattle.clap.specs.Values.{kind_of}
-use Rattle.clap.specs.declared.error.kind.ErrorKind.{ErrorKind}
-use Rattle.rp_command_line.specs.CommandLine.{bind_option, console, option_of, AreRefusedFor, ChooseBoth, IsChartRequest, IsLanguage, IsRequest, IsView, ReadsAs}
-use Rattle.rp_command_line.specs.RefusedWords.{IsConflict}
+use Rattle.rp_command_line.specs.CommandLine.{console, option_of, IsChartRequest, IsLanguage, IsRequest, IsView, ReadsAs}
 
 or_else_second : (first second : Kinds) → or_else first second ≡ [] → second ≡ []
 or_else_second [] second e = e
@@ -144,9 +141,8 @@ module _ (one other : Text → Option Text) (same : (option : Text) → one opti
   pub is_chart_by : (request : ChartRequest) → IsChartRequest one request → IsChartRequest other request
   is_chart_by request is = record {
     view = is_view_by request.view is.view;
-    calls = λ e. is.calls (same (codes "calls") ∙ e);
-    page = λ e f. is.page (same (codes "calls") ∙ e) (same (codes "html") ∙ f);
-    drawing = λ e f. is.drawing (same (codes "calls") ∙ e) (same (codes "html") ∙ f);
+    page = λ e. is.page (same (codes "html") ∙ e);
+    drawing = λ e. is.drawing (same (codes "html") ∙ e);
   }
 
   -- and they ask for the same search
@@ -161,25 +157,6 @@ module _ (one other : Text → Option Text) (same : (option : Text) → one opti
   pub is_language_by : (language : Language) → IsLanguage one language → IsLanguage other language
   is_language_by language is = record {
     c = λ e. is.c (same (codes "c") ∙ e);
-    no_ada = λ e a. is.no_ada (same (codes "c") ∙ e) (same (codes "ada") ∙ a);
-    no_local = λ e l. is.no_local (same (codes "c") ∙ e) (same (codes "local") ∙ l);
     local = λ e l. is.local (same (codes "c") ∙ e) (same (codes "local") ∙ l);
     ada = λ e l. is.ada (same (codes "c") ∙ e) (same (codes "local") ∙ l);
   }
-
-  -- or both
-  pub choose_both_by : ChooseBoth one → ChooseBoth other
-  choose_both_by is = record {
-    c = λ e. is.c (same (codes "c") ∙ e);
-    ada = λ e l. is.ada (same (codes "ada") ∙ e) (same (codes "local") ∙ l);
-  }
-
--- what clap refuses is refused
-pub refused_by_clap : (words : List Text) (e : Error) → HasKind (fault_of console words) e → AreRefusedFor words (kind_of e)
-refused_by_clap words e (inl is) = inl is
-refused_by_clap words e (inr is) = inr (inl is)
-
--- and so are words that choose both languages
-pub refused_for_both : (words : List Text) (kind : ErrorKind) → IsConflict kind → ChooseBoth (bind_option words) → AreRefusedFor words kind
-refused_for_both words kind (inl is) both = inl is
-refused_for_both words kind (inr is) both = inr (inr (is, both))

@@ -1,23 +1,19 @@
 -- The command line.
-use Rattle.std.specs.Prelude.{◌≡◌, ◌⊎◌, ℕ, ◌^◌, ◌<◌, true, false, Option, Some, None, List, [], ◌∷◌}
-use Rattle.std.specs.Prelude.{pos}
+use Rattle.std.specs.Prelude.{◌≡◌, ℕ, ◌^◌, ◌<◌, true, false, Option, Some, None, List, [], ◌∷◌, pos}
 use Rattle.std.specs.Prelude.{codes, option_and_then, if◌then◌else◌}
 use Rattle.std.specs.Str.{bytes_eq}
 use Rattle.std.specs.Str.Parse.{IsNumeral, digits_value, without_leading_plus}
-use Rattle.clap.specs.Kinds.{IsAmong}
-use Rattle.clap.specs.Words.{App, Rule, Shape, Text, fault_of, new_app, new_rule, one_of, subcommand_of}
+use Rattle.clap.specs.Words.{App, Rule, Shape, Text, new_app, new_rule, one_of, subcommand_of}
 use Rattle.clap.specs.Words.{with_rule, with_subcommand}
 use Rattle.clap.specs.Simple.{on_top}
 use Rattle.clap.specs.declared.builder.action.ArgAction.TheVariants.{SetTrue}
 use Rattle.clap.specs.declared.builder.value_parser.ValueParser.TheVariants.{Signed}
-use Rattle.clap.specs.declared.error.kind.ErrorKind.{ErrorKind}
-use Rattle.clap.specs.declared.error.kind.ErrorKind.TheVariants as kinds
 use Rattle.rp_bind.specs.declared.lines.Language.{Language}
 use Rattle.rp_bind.specs.declared.lines.Language.TheVariants as languages
 use Rattle.rp_explore_deck.specs.declared.request.ExploreRequest.{ExploreRequest}
 use Rattle.rp_history.specs.declared.view.View.{View}
 use Rattle.rp_history.specs.declared.view.ChartRequest.{ChartRequest}
-use Rattle.rp_history.specs.declared.page.Form.TheVariants.{Drawing, Page, Calls}
+use Rattle.rp_history.specs.declared.page.Form.TheVariants.{Drawing, Page}
 use Rattle.rp_command_line.specs.declared.args.Args.{Args}
 use Rattle.rp_command_line.specs.declared.args.Args.TheVariants.{Script, Live, Chart, Explore, Bind}
 
@@ -91,14 +87,9 @@ chart_of_part =
 abbrev pub html_option : Rule
 html_option = record (new_rule (codes "html")) { long = Some (codes "html"); action = Some SetTrue }
 
--- the option `--calls`
-abbrev pub calls_option : Rule
-calls_option =
-    record (new_rule (codes "calls")) { long = Some (codes "calls"); action = Some SetTrue }
-
--- the subcommand `chart`, with its six options
+-- the subcommand `chart`, with its five options
 abbrev pub chart : App
-chart = with_rule (with_rule chart_of_part html_option) calls_option
+chart = with_rule chart_of_part html_option
 
 -- the option `--states`
 abbrev pub states : Rule
@@ -200,15 +191,11 @@ pub record IsView (value : Text → Option Text) (view : View) : Type 0 where
   pub to_end : value (codes "to") ≡ None → view.to ≡ None
   pub to : (number : ℕ) → ReadsAs 32 (value (codes "to")) number → view.to ≡ Some number
 
--- What the values of these options make of a run: that part of it, as a page that shows calls and
--- replies alone at first, as another page, or as a drawing.
+-- What the values of these options make of a run: that part of it, as a page or as a drawing.
 pub record IsChartRequest (value : Text → Option Text) (request : ChartRequest) : Type 0 where
   pub view : IsView value request.view
-  pub calls : value (codes "calls") ≡ Some (codes "true") → request.form ≡ Calls
-  pub page : value (codes "calls") ≡ Some (codes "false")
-      → value (codes "html") ≡ Some (codes "true") → request.form ≡ Page
-  pub drawing : value (codes "calls") ≡ Some (codes "false")
-      → value (codes "html") ≡ Some (codes "false") → request.form ≡ Drawing
+  pub page : value (codes "html") ≡ Some (codes "true") → request.form ≡ Page
+  pub drawing : value (codes "html") ≡ Some (codes "false") → request.form ≡ Drawing
 
 -- The search that the values of these options ask for: at most how many states it finds, and the
 -- outcome of which a deck is printed, if one is.
@@ -217,25 +204,11 @@ pub record IsRequest (value : Text → Option Text) (request : ExploreRequest) :
   pub no_deck : value (codes "deck") ≡ None → request.deck ≡ None
   pub deck : (number : ℕ) → ReadsAs 32 (value (codes "deck")) number → request.deck ≡ Some number
 
--- What the values of these options choose: a header of C by `--c`, with which no package of Ada is
--- chosen; else the body of a package of Ada by `--local`, and its specification without it.
+-- What the values of these options choose: a header of C by `--c`; else the body of a package of Ada
+-- by `--local`, and its specification without it.
 pub record IsLanguage (value : Text → Option Text) (language : Language) : Type 0 where
   pub c : value (codes "c") ≡ Some (codes "true") → language ≡ languages.C
-  pub no_ada : value (codes "c") ≡ Some (codes "true") → value (codes "ada") ≡ Some (codes "true") → ⊥
-  pub no_local : value (codes "c") ≡ Some (codes "true") → value (codes "local") ≡ Some (codes "true")
-      → ⊥
   pub local : value (codes "c") ≡ Some (codes "false") → value (codes "local") ≡ Some (codes "true")
       → language ≡ languages.Local
   pub ada : value (codes "c") ≡ Some (codes "false") → value (codes "local") ≡ Some (codes "false")
       → language ≡ languages.Ada
-
--- these values choose a header of C, and a package of Ada with it
-pub record ChooseBoth (value : Text → Option Text) : Type 0 where
-  pub c : value (codes "c") ≡ Some (codes "false") → ⊥
-  pub ada : value (codes "ada") ≡ Some (codes "false") → value (codes "local") ≡ Some (codes "false") → ⊥
-
--- the words are refused for this: as clap refuses them, or since they choose both languages
-abbrev pub AreRefusedFor : List Text → ErrorKind → Type 0
-AreRefusedFor words kind =
-    (kind ≡ kinds.OutOfMemory) ⊎ (IsAmong kind (fault_of console words)
-    ⊎ ((kind ≡ kinds.ArgumentConflict) × ChooseBoth (bind_option words)))

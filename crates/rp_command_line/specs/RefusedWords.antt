@@ -22,7 +22,3 @@ RefusesAs kind = RefusesFor (no_run_of kind)
 -- one of the words is not UTF-8, or there is no memory to report that
 abbrev pub IsUnread : ErrorKind → Type 0
 IsUnread kind = (kind ≡ kinds.InvalidValue) ⊎ (kind ≡ kinds.OutOfMemory)
-
--- the words choose both languages, or there is no memory to report that
-abbrev pub IsConflict : ErrorKind → Type 0
-IsConflict kind = (kind ≡ kinds.OutOfMemory) ⊎ (kind ≡ kinds.ArgumentConflict)

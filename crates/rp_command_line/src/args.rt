@@ -1,14 +1,11 @@
 //! What the words of the command line ask for.
 
-ghost use Rattle.std.specs.Prelude.{◌≡◌, ℕ, None, Some, [], true, false, codes, IfErr, IfNone, IfOk, IfSome, map, option_map};
-ghost use Rattle.clap.specs.Values.{kind_of};
-ghost use Rattle.clap.specs.Words.{app_of, rule_of, subcommand_of, fault_of, found_of, one_text};
+ghost use Rattle.std.specs.Prelude.{◌≡◌, ℕ, None, Some, true, false, codes, IfOk, map, option_map};
+ghost use Rattle.clap.specs.Words.{app_of, rule_of, subcommand_of, fault_of, found_of, one_text, FailsBy};
 ghost use Rattle.clap.specs.declared.builder.command.Command.TheViews.{out-Command};
-ghost use Rattle.rp_command_line.specs.CommandLine.{ada_option, bind, bind_option, c_option, chart, chart_option, console, count_option, explore, explore_option, calls_option, hide_self_option, html_option, live, local_option, subcommand_word, position_option, script, seed, seed_of, states, trace_of, turns, turns_of, AreRefusedFor, ChooseBoth, IsChartRequest, IsLanguage, IsRequest, IsView, ReadsAs};
-ghost use Rattle.rp_command_line.specs.RefusedWords.{IsConflict};
+ghost use Rattle.rp_command_line.specs.CommandLine.{ada_option, bind, bind_option, c_option, chart, chart_option, console, count_option, explore, explore_option, hide_self_option, html_option, live, local_option, subcommand_word, position_option, script, seed, seed_of, states, trace_of, turns, turns_of, IsChartRequest, IsLanguage, IsRequest, IsView, ReadsAs};
 
 use crate::words::VERSION;
-use clap::error::ErrorKind;
 use clap::{Arg, ArgAction, ArgMatches, Command, Error, value_parser};
 use rp_base::Position;
 use rp_bind::Language;
@@ -50,7 +47,6 @@ pub fn command<'a>(alloc: Global) -> Result<Command<'a>, AllocError>
     let explore = explore_command(alloc)?;
     let bind = bind_command(alloc)?;
     Command::new(alloc, "rp_console")
-        .bin_name("rp_console")?
         .about("Runs a program of tasks and objects on a cluster of nodes in memory")
         .after_help("Example: rp_console script < DECK; decks are described in docs/DECK.md")
         .version(VERSION)
@@ -112,8 +108,7 @@ fn chart_command<'a>(alloc: Global) -> Result<Command<'a>, AllocError>
             "to",
             "Draws only the moments up to number N, 1 to 4294967295",
         ))?
-        .arg(html_option(alloc))?
-        .arg(calls_option(alloc))
+        .arg(html_option(alloc))
 }
 
 /// The subcommand `explore`.
@@ -224,17 +219,6 @@ fn html_option<'a>(alloc: Global) -> Arg<'a>
         .action(ArgAction::SetTrue)
 }
 
-/// The option `--calls`.
-fn calls_option<'a>(alloc: Global) -> Arg<'a>
-    ensures rule { rule_of result ≡ calls_option }
-    ensures local { result.global ≡ false }
-{
-    Arg::new(alloc, "calls")
-        .long("calls")
-        .help("Prints the page with calls, the order of actions and replies alone at first")
-        .action(ArgAction::SetTrue)
-}
-
 /// The option `--ada`.
 fn ada_option<'a>(alloc: Global) -> Arg<'a>
     ensures rule { rule_of result ≡ ada_option }
@@ -284,7 +268,7 @@ fn count_option<'a>(alloc: Global, name: &'a str, help: &'a str) -> Arg<'a>
 /// user.
 pub fn read_args<S: AsStr>(alloc: Global, words: &[S]) -> Result<Args, Error>
     // claim: The words of the command line name a subcommand and its options, or are refused as
-    //   clap's rules say, or since they choose a header of C and a package of Ada. For a drawing they choose a position, whether packets from a node to
+    //   clap's rules say. For a drawing they choose a position, whether packets from a node to
     //   itself are drawn, the first and the last moment that is drawn, and whether a page is made of
     //   it; for a search how many
     //   states it may find, and whether it is to print the deck of an outcome, and of which; and for
@@ -306,8 +290,7 @@ pub fn read_args<S: AsStr>(alloc: Global, words: &[S]) -> Result<Args, Error>
         → IsRequest (explore_option (map S.text words.now)) request) }
     ensures bind { IfOk result (λ args. (language : Language) → args ≡ Args.Bind language
         → IsLanguage (bind_option (map S.text words.now)) language) }
-    ensures right { IfOk result (λ _. fault_of console (map S.text words.now) ≡ []) }
-    ensures refused { IfErr result (λ error. AreRefusedFor (map S.text words.now) (kind_of error)) }
+    ensures refused { FailsBy (fault_of console (map S.text words.now)) result }
 {
     let matches = command(alloc)?.try_get_matches_from(words)?;
     if let Some(found) = matches.subcommand_matches("script") {
@@ -327,60 +310,29 @@ pub fn read_args<S: AsStr>(alloc: Global, words: &[S]) -> Result<Args, Error>
         return Ok(Args::Explore(request_of(found)));
     }
     match matches.subcommand_matches("bind") {
-        Some(found) => match language_of(found) {
-            Some(language) => Ok(Args::Bind(language)),
-            None => Err(two_languages(alloc)),
-        },
+        Some(found) => Ok(Args::Bind(language_of(found))),
         None => unreachable!(),
     }
 }
 
-/// The language that the options of `bind` choose, if it is one.
-fn language_of(found: &ArgMatches<'_>) -> Option<Language>
-    ensures one { IfSome result (IsLanguage (one_text (found_of found.now))) }
-    ensures both { IfNone result (ChooseBoth (one_text (found_of found.now))) }
+/// The language that the options of `bind` choose.
+fn language_of(found: &ArgMatches<'_>) -> Language
+    ensures { IsLanguage (one_text (found_of found.now)) result }
 {
-    let is_local = found.get_flag("local");
-    let is_ada = found.get_flag("ada") || is_local;
-    let is_c = found.get_flag("c");
-    if is_c && is_ada {
-        None
-    } else if is_c {
-        Some(Language::C)
-    } else if is_local {
-        Some(Language::Local)
+    if found.get_flag("c") {
+        Language::C
+    } else if found.get_flag("local") {
+        Language::Local
     } else {
-        Some(Language::Ada)
+        Language::Ada
     }
-}
-
-/// The refusal of words that choose both languages, or `OutOfMemory` if there is no memory for it.
-fn two_languages(alloc: Global) -> Error
-    ensures { IsConflict (kind_of result) }
-{
-    match conflict(alloc) {
-        Ok(error) => error,
-        Err(error) => Error::from(error),
-    }
-}
-
-/// The error that both languages are chosen.
-fn conflict(alloc: Global) -> Result<Error, AllocError>
-    ensures { IfOk result (λ error. kind_of error ≡ ErrorKind.ArgumentConflict) }
-{
-    bind_command(alloc)?.error(
-        ErrorKind::ArgumentConflict,
-        "the argument '--c' cannot be used with '--ada' or '--local'",
-    )
 }
 
 /// What the options of `chart` ask for.
 fn chart_of(found: &ArgMatches<'_>) -> ChartRequest
     ensures { IsChartRequest (one_text (found_of found.now)) result }
 {
-    let form = if found.get_flag("calls") {
-        Form::Calls
-    } else if found.get_flag("html") {
+    let form = if found.get_flag("html") {
         Form::Page
     } else {
         Form::Drawing

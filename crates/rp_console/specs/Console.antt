@@ -2,10 +2,12 @@
 use Rattle.std.specs.Prelude.{◌≡◌, ◌⊎◌, ℕ, true, false, Option, Some, None, Result, Ok, Err}
 use Rattle.std.specs.Prelude.{List, [], ◌++◌, codes, option_map, IfOk, IfErr, IfSome, OnErr}
 use Rattle.std.specs.Prelude.{string_bytes}
+use Rattle.clap.specs.Kinds.{IsAmong}
 use Rattle.clap.specs.Words.{Text, fault_of, subcommand_of}
 use Rattle.clap.specs.declared.error.kind.ErrorKind.{ErrorKind}
+use Rattle.clap.specs.declared.error.kind.ErrorKind.TheVariants.{OutOfMemory}
 use Rattle.rp_deck_hints.specs.rp_base.specs.declared.fault.Fault.{Fault}
-use Rattle.rp_deck_hints.specs.rp_base.specs.declared.fault.Fault.TheVariants.{BadDeck, Io}
+use Rattle.rp_deck_hints.specs.rp_base.specs.declared.fault.Fault.TheVariants.{BadDeck}
 use Rattle.rp_deck_hints.specs.declared.reading.Reading.{Reading}
 use Rattle.rp_deck_hints.specs.declared.reading.Reading.TheVariants.{Deck, Plan}
 use Rattle.rp_deck_hints.specs.rp_deck.specs.declared.deck.Mode.TheVariants as modes
@@ -24,12 +26,12 @@ use Rattle.rp_history.specs.declared.view.ChartRequest.{ChartRequest}
 use Rattle.rp_bind_run.specs.rp_script.specs.Agreeing.{ScriptBegins, ScriptPrints}
 use Rattle.rp_command_line.specs.CommandLine.{bind_option, chart_option, console, explore_option}
 use Rattle.rp_command_line.specs.CommandLine.{seed_of, subcommand_word, trace_of, turns_of}
-use Rattle.rp_command_line.specs.CommandLine.{AreRefusedFor, IsChartRequest, IsLanguage, IsRequest, ReadsAs}
+use Rattle.rp_command_line.specs.CommandLine.{IsChartRequest, IsLanguage, IsRequest, ReadsAs}
 use Rattle.rp_command_line.specs.RefusedWords.{RefusesAs}
 use Rattle.rp_live_run.specs.Figures.{figures_line_of}
 use Rattle.rp_bind_run.specs.rp_script.specs.Given.{FailsRun}
 use Rattle.rp_live_run.specs.LiveRun.{LiveBegins, LivePrints}
-use Rattle.rp_bind_run.specs.rp_output.specs.Endings.{status_of}
+use Rattle.rp_bind_run.specs.rp_output.specs.Endings.{ReportsFault, status_of}
 use Rattle.rp_bind_run.specs.rp_output.specs.FaultMessage.{fault_message_of, with_line_feed}
 use Rattle.rp_bind_run.specs.rp_output.specs.Stream.{IsReadFault, Writes}
 use Rattle.rp_command_line.specs.declared.args.Args.{Args}
@@ -182,15 +184,6 @@ pub record RunsAs (args : Args) (given output output_after errors errors_after :
   pub reported : Writes errors errors_after (report_of ran hint) ending.reported
   pub silent : report_of ran hint ≡ [] → errors_after ≡ errors
 
--- what is reported of a deck that could not be read: the fault, and how long a deck may be
-abbrev pub length_report : Fault → List ℕ
-length_report Io =
-    with_line_feed (codes "the deck cannot be read, or has more than 1048576 bytes")
-length_report _ = []
-
-abbrev pub unread_report : Fault → List ℕ
-unread_report fault = with_line_feed (fault_message_of fault) ++ length_report fault
-
 -- The deck could not be read: nothing was printed, and the fault was reported.
 pub record FailsToRead (output output_after errors errors_after : Content) (ending : Ending)
     : Type 0 where
@@ -198,7 +191,7 @@ pub record FailsToRead (output output_after errors errors_after : Content) (endi
   pub unread : IsReadFault fault
   pub unprinted : output_after ≡ output
   pub status : ending.status ≡ status_of fault
-  pub reported : Writes errors errors_after (unread_report fault) ending.reported
+  pub reported : ReportsFault fault errors errors_after ending
 
 -- what was asked for was run over the deck, or that could not be read
 abbrev pub EndsAs : Args → Content → Content → Content → Content → Content → Ending → Type 0
@@ -213,5 +206,5 @@ abbrev pub FollowsWords : List Text → Content → Content → Content → Cont
 FollowsWords words given output output_after errors errors_after ending =
     ((args : Args) × AsksFor words args
     × EndsAs args given output output_after errors errors_after ending)
-    ⊎ ((kind : ErrorKind) × AreRefusedFor words kind
+    ⊎ ((kind : ErrorKind) × ((kind ≡ OutOfMemory) ⊎ IsAmong kind (fault_of console words))
     × RefusesAs kind output output_after errors errors_after ending)

@@ -1,7 +1,7 @@
 //! Does what the words of the command line ask for, and reports its faults.
 
 ghost use Rattle.std.specs.Prelude.{◌≡◌, ◌≤◌, [], IfErr, IfOk, Ok, OnErr, length, map};
-ghost use Rattle.rp_console.specs.Console.{IsFaultOf, FollowsWords, HasBegun, IsHintOf, Prints, EndsAs, fault_report, reading_of, report_of, search_report, search_status, status_of_run, unread_report};
+ghost use Rattle.rp_console.specs.Console.{IsFaultOf, FollowsWords, HasBegun, IsHintOf, Prints, EndsAs, fault_report, reading_of, report_of, search_report, search_status, status_of_run};
 ghost use Rattle.rp_bind_run.specs.rp_output.specs.Endings.{status_of};
 ghost use Rattle.rp_bind_run.specs.rp_output.specs.FaultMessage.{with_line_feed};
 ghost use Rattle.rp_bind_run.specs.rp_output.specs.Stream.{Writes};
@@ -43,9 +43,6 @@ pub enum Report {
 const TOO_LONG: &str =
     "error: the drawing has more than 2000 lines: choose a part of it by --from N or --to N";
 
-/// What is said of a deck that could not be read.
-const LONGEST_DECK: &str = "the deck cannot be read, or has more than 1048576 bytes";
-
 /// Why there is no deck of an outcome: no outcome has the number.
 const NO_OUTCOME: &str = "error: there is no outcome of this number";
 
@@ -74,8 +71,7 @@ pub fn obey<
     //   the deck is none of Ada, each of which one line reports; and 4 at every other fault. A fault
     //   is reported on standard error by its line, that of a bad deck with the first bad line that the
     //   deck's bytes mean and the first reason on it, after which the line of a hint of these bytes
-    //   may follow. If the deck cannot be read, nothing is printed, and after the fault one line says how
-    //   long a deck may be, unless memory ran out. A live run
+    //   may follow. If the deck cannot be read, nothing is printed. A live run
     //   without a fault leaves there the line of the figures of the run that it printed, with a time
     //   or without one. A line that could not be written whole is left there as a prefix of it. A
     //   script or a drawing without a fault leaves standard error as it was; wrong words print
@@ -109,26 +105,7 @@ fn run_to_end<T: Threads + Wait + Clock + Sync, R: Read + Drop, W: Write + Drop,
             let hint = hint_of(alloc, &text, reading, &ran);
             end(&mut streams.errors, ran, hint)
         }
-        Err(fault) => fail_unread(&mut streams.errors, fault),
-    }
-}
-
-/// Reports why a deck could not be read, and how long one may be.
-fn fail_unread<E: Write>(errors: &mut E, fault: Fault) -> Ending
-    ensures status { result.status ≡ status_of fault }
-    ensures reported { Writes (E.contents errors.old) (E.contents errors.new)
-        (unread_report fault) result.reported }
-{
-    let ending = fail(errors, fault);
-    if fault != Fault::Io {
-        return ending;
-    }
-    if ending.reported.is_err() {
-        return ending;
-    }
-    Ending {
-        status: ending.status,
-        reported: report(errors, LONGEST_DECK),
+        Err(fault) => fail(&mut streams.errors, fault),
     }
 }
 

@@ -1,6 +1,6 @@
--- What a packet's text led to, where its plan was carried out at once.
+-- What a packet that was delivered led to, where its plan was carried out at once.
 use Rattle.std.proofs.Common.{arith, ◌≡◌, ◌≢◌, ◌∙◌, ◌≤◌, ◌++◌, ◌∷◌, [], zero, suc, ℕ, Bool, List, Option, Some, None, is_some, if◌then◌else◌, false, sym, ap}
-use Rattle.std.specs.Prelude.{Result, Ok}
+use Rattle.std.specs.Prelude.{slice_get, Result, Ok}
 use Rattle.std.specs.Result.{IsErrAnd}
 use Rattle.rp_base.specs.declared.action.Action.{Action}
 use Rattle.rp_base.specs.declared.fault.Fault.{Fault}
@@ -14,14 +14,17 @@ use Rattle.rp_base.specs.Proposals.{proposal_at}
 use Rattle.rp_base.specs.Records.{learned_at}
 use Rattle.rp_base.specs.Voting.{accept_answer, prepare_answer}
 use Rattle.rp_base.specs.WriteFaults.{fault_of}
-use Rattle.rp_codec.specs.Message.{Message}
+use Rattle.rp_codec.specs.Message.{Message, IsPacket}
 use Rattle.rp_codec.specs.Reading.{all_of}
+use Rattle.rp_codec.specs.Text.{text_of}
+use Rattle.rp_codec.proofs.Decoded.{whole_again}
 use Rattle.rp_codec.specs.declared.packet.Body.{Body}
 use Rattle.rp_codec.specs.declared.usual_texts.Header.{Header}
 use Rattle.rp_rules.specs.rp_learner.specs.declared.learner.VoteStatus.{VoteStatus}
 use Rattle.std.proofs.lemmas.List.{map-append}
 use Rattle.rp_model.specs.rp_machine.specs.Replay.{one_to}
 use Rattle.rp_model.specs.Acceptor.{answer_to, accept_plan, on_accept, on_prepare, prepare_plan}
+use Rattle.rp_model.specs.Effect.{NodeInput}
 use Rattle.rp_model.specs.Leader.{on_promise}
 use Rattle.rp_model.specs.Learner.{decision_plan, on_accepted, on_decided}
 use Rattle.rp_model.specs.Node.{RunningNode}
@@ -43,12 +46,16 @@ use Rattle.rp_rules.specs.rp_server.specs.Status.{status_of}
 use Rattle.rp_rules.specs.rp_server.proofs.Promising.{plan_is, plan_waits, promise_plan}
 use Rattle.rp_rules.specs.Plans.{turn_of_plan, IsPlanOf, TakesNoMemory}
 use Rattle.rp_replica.specs.Committing.{Commits}
-use Rattle.rp_replica.specs.Texts.{text_effect}
+use Rattle.rp_replica.specs.Inputs.{replica_effect, effect_if_given}
 use Rattle.rp_replica.specs.State.{ReplicaState, server_of}
 use Rattle.rp_replica.specs.Turning.{AnswersOnto, Stops}
 use Rattle.rp_replica.proofs.Certain.{plan_takes_none}
 use Rattle.rp_replica.proofs.Planned.{planned}
 use Rattle.rp_replica.proofs.Planning.{committed, refused}
+
+-- these bytes are the text of the packet that was sent at this place
+abbrev pub IsTextAt : List Message → ℕ → List ℕ → Type 0
+IsTextAt before place bytes = (m : Message) → slice_get before place ≡ Some m → (bytes ≡ text_of m) × IsPacket m
 
 -- ---- the plan, by what was answered
 
@@ -92,29 +99,33 @@ module _ {S : Type 0} (next : S → Action → S) (answers : S → Action → Li
 
 -- ---- the plan carried out
 
-module _ {S : Type 0} (next : S → Action → S) (answers : S → Action → List Answer) (replica : ReplicaState S) (bytes : List ℕ) (plan : Plan) where
+module _ {S : Type 0} (next : S → Action → S) (answers : S → Action → List Answer) (replica : ReplicaState S) (before : List Message) (place : ℕ) (bytes : List ℕ) (plan : Plan) where
   -- the packet of these bytes has the turn of this plan
   abbrev pub HasPlan : Type 0
-  HasPlan = IsPlanOf next answers (server_of replica) bytes plan
+  HasPlan = IsTextAt before place bytes × IsPlanOf next answers (server_of replica) bytes plan
 
-  pub turned : HasPlan → Ok (turn_of_plan next answers (server_of replica) plan) ≡ text_effect next answers replica bytes
-  turned has = planned next answers (server_of replica) (packet_given (all_of bytes)) plan (sym has)
+  turned : HasPlan → (m : Message) → slice_get before place ≡ Some m → Ok (turn_of_plan next answers (server_of replica) plan) ≡ replica_effect next answers replica (NodeInput.Receive m)
+  turned has m at =
+      let text = has.0 m at in
+      let given = ap (λ (l : List ℕ). packet_given (all_of l)) text.0 ∙ ap packet_given (whole_again m text.1) in
+      planned next answers (server_of replica) (packet_given (all_of bytes)) plan (sym has.1) ∙ ap (effect_if_given next answers replica) given
 
   -- it was carried out
-  pub carried_out : HasPlan → (before : List Message) (new : ReplicaState S) (after : List Message) (dropped : Dropped) → replica.failed ≡ false → Commits (turn_of_plan next answers (server_of replica) plan) replica new before after
-      → dropped ≡ dropped_by plan → AnswersOnto (text_effect next answers replica bytes) replica new before after (Ok dropped)
-  carried_out has before new after dropped working commits is =
-      committed next answers replica (text_effect next answers replica bytes) plan new before after dropped (turned has) working commits is
+  pub carried_out : HasPlan → (new : ReplicaState S) (after : List Message) (dropped : Dropped) → replica.failed ≡ false → Commits (turn_of_plan next answers (server_of replica) plan) replica new before after → dropped ≡ dropped_by plan
+      → (m : Message) → slice_get before place ≡ Some m → AnswersOnto (replica_effect next answers replica (NodeInput.Receive m)) replica new before after (Ok dropped)
+  carried_out has new after dropped working commits is m at =
+      committed next answers replica (replica_effect next answers replica (NodeInput.Receive m)) plan new before after dropped (turned has m at) working commits is
 
   -- it was not
-  pub not_carried_out : HasPlan → (before : List Message) (new : ReplicaState S) (after : List Message) (answer : Result Dropped Fault) (fault : WriteFault) → IsErrAnd answer (λ e. e ≡ fault_of fault)
-      → Stops (written_by plan) replica new (fault_of fault) → after ≡ before → AnswersOnto (text_effect next answers replica bytes) replica new before after answer
-  not_carried_out has before new after answer fault is stops unsent =
-      refused next answers replica (text_effect next answers replica bytes) plan new before after answer fault is (turned has) stops unsent
+  pub not_carried_out : HasPlan → (new : ReplicaState S) (after : List Message) (answer : Result Dropped Fault) (fault : WriteFault) → IsErrAnd answer (λ e. e ≡ fault_of fault) → Stops (written_by plan) replica new (fault_of fault) → after ≡ before
+      → (m : Message) → slice_get before place ≡ Some m → AnswersOnto (replica_effect next answers replica (NodeInput.Receive m)) replica new before after answer
+  not_carried_out has new after answer fault is stops unsent m at =
+      refused next answers replica (replica_effect next answers replica (NodeInput.Receive m)) plan new before after answer fault is (turned has m at) stops unsent
 
   -- its turn takes memory where the plan does
-  pub takes_memory : HasPlan → (¬ TakesNoMemory replica.running (turn_of_plan next answers (server_of replica) plan)) → (turn : Turn) → text_effect next answers replica bytes ≡ Ok turn → ¬ TakesNoMemory replica.running turn
-  takes_memory has takes turn is = λ free. takes (plan_takes_none next answers replica (text_effect next answers replica bytes) plan turn (turned has) is free)
+  pub takes_memory : HasPlan → (¬ TakesNoMemory replica.running (turn_of_plan next answers (server_of replica) plan)) → (m : Message) → slice_get before place ≡ Some m
+      → (turn : Turn) → replica_effect next answers replica (NodeInput.Receive m) ≡ Ok turn → ¬ TakesNoMemory replica.running turn
+  takes_memory has takes m at turn is = λ free. takes (plan_takes_none next answers replica (replica_effect next answers replica (NodeInput.Receive m)) plan turn (turned has m at) is free)
 
 -- ---- a packet to each node
 

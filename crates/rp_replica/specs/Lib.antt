@@ -3,7 +3,6 @@ pub mod Inputs
 pub mod Kept
 pub mod Invariant
 pub mod Turning
-pub mod Texts
 pub mod Opening
 pub mod Committing
 pub mod Cutting

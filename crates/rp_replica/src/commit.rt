@@ -298,8 +298,7 @@ impl<M: Machine, D: Device> Replica<M, D> {
     }
 
     /// An item becomes pending.
-    #[inline(always)]
-    pub(crate) fn add(&mut self, item: RightAction)
+    fn add(&mut self, item: RightAction)
         requires { length self.old.running.pending < most_pending }
         ensures { self.new ≡ after_turn self.old (notes (record self.old.running {
           pending = self.old.running.pending ++ item ∷ [];

@@ -1,16 +1,15 @@
-//! A packet's text, wherever it lies. Each frequent kind has one function, in which the packet is read,
-//! and what it mostly leads to is decided and done at once; `receive_other` decides and commits a
-//! plan of every other packet, as a step does of any input.
+//! A packet that is delivered, read where it lies among those that were sent. Each usual kind has a
+//! function, in which what it mostly leads to is decided and done at once; `deliver_other` decides
+//! and commits a plan of every other packet, as a step does of any input.
 
 ghost use Rattle.std.specs.Prelude.{◌≡◌, ◌<◌, Some, false, length, slice_get};
-ghost use Rattle.rp_codec.specs.Decoding.{IsLongBody, IsLongText};
+ghost use Rattle.rp_codec.specs.Decoding.{IsLongBody};
 ghost use Rattle.rp_codec.specs.Message.{Message};
 ghost use Rattle.rp_model.specs.Effect as inputs;
 ghost use Rattle.rp_replica.specs.Inputs.{replica_effect};
-ghost use Rattle.rp_replica.specs.Texts.{text_effect};
 ghost use Rattle.rp_replica.specs.Turning.{AnswersOnto, IsCertain};
 
-use crate::packet_text::{PacketText, SentText};
+use crate::laws::texts_are_packets;
 use crate::replica::Replica;
 use rp_base::{Fault, Vote};
 use rp_codec::{Kind, decision_of, decision_tail, vote_tail};
@@ -19,9 +18,7 @@ use rp_machine::Machine;
 use rp_model::{Dropped, Plan};
 use rp_outbox::Outbox;
 use rp_proposer::Progress;
-use rp_rules::{
-    accept_for, accepted_for, call_for, decided_for, on_call, on_text, prepare_for, promise_for,
-};
+use rp_rules::{accept_for, accepted_for, decided_for, on_text, prepare_for, promise_for};
 use rp_store::Device;
 use std::alloc::Global;
 
@@ -44,89 +41,45 @@ impl<M: Machine, D: Device> Replica<M, D> {
             → IsCertain (replica_effect M.next M.answers self.old (inputs.NodeInput.Receive m))
             self.old result }
     {
-        let _sent = out.text(place);
-        self.receive_text(alloc, out, SentText { place })
-    }
-
-    /// A packet's text comes: the packets of the step are put after those that were sent before.
-    #[inline(always)]
-    pub(crate) fn receive_text<T: PacketText>(
-        &mut self,
-        alloc: Global,
-        out: &mut Outbox,
-        text: T,
-    ) -> Result<Dropped, Fault>
-        ensures answer { AnswersOnto
-            (text_effect M.next M.answers self.old (T.text text out.old.sent))
-            self.old self.new out.old.sent out.new.sent result }
-        ensures certain { (¬ IsLongText (T.text text out.old.sent)) → IsCertain
-            (text_effect M.next M.answers self.old (T.text text out.old.sent)) self.old result }
-    {
         if self.has_failed() {
             return Err(Fault::Failed);
         }
-        match Kind::of_text(text.read(out)) {
-            Some(Kind::Call) => self.receive_call(alloc, out, text),
-            Some(Kind::Prepare) => self.receive_prepare(alloc, out, text),
-            Some(Kind::Promise) => self.receive_promise(alloc, out, text),
-            Some(Kind::Accept) => self.receive_accept(alloc, out, text),
-            Some(Kind::Accepted) => self.receive_accepted(alloc, out, text),
-            Some(Kind::Decided) => self.receive_decided(alloc, out, text),
-            _ => self.receive_other(alloc, out, text),
+        match Kind::of_text(out.text(place).unwrap()) {
+            Some(Kind::Prepare) => self.deliver_prepare(alloc, out, place),
+            Some(Kind::Promise) => self.deliver_promise(alloc, out, place),
+            Some(Kind::Accept) => self.deliver_accept(alloc, out, place),
+            Some(Kind::Accepted) => self.deliver_accepted(alloc, out, place),
+            Some(Kind::Decided) => self.deliver_decided(alloc, out, place),
+            _ => self.deliver_other(alloc, out, place),
         }
-    }
-
-    /// A task's call mostly becomes pending.
-    #[inline(never)]
-    fn receive_call<T: PacketText>(
-        &mut self,
-        alloc: Global,
-        out: &mut Outbox,
-        text: T,
-    ) -> Result<Dropped, Fault>
-        requires working { self.old.failed ≡ false }
-        ensures answer { AnswersOnto
-            (text_effect M.next M.answers self.old (T.text text out.old.sent))
-            self.old self.new out.old.sent out.new.sent result }
-        ensures certain { (¬ IsLongText (T.text text out.old.sent)) → IsCertain
-            (text_effect M.next M.answers self.old (T.text text out.old.sent)) self.old result }
-    {
-        let Some(action) = call_for(&self.server, text.read(out)) else {
-            return self.receive_other(alloc, out, text);
-        };
-        let mut plan = Plan::Pass(Dropped::No);
-        on_call(&self.server, action, &mut plan);
-        if let Plan::Await(item) = plan {
-            self.add(item);
-            return Ok(Dropped::No);
-        }
-        self.commit(alloc, out, &plan)?;
-        Ok(plan.dropped())
     }
 
     /// A prepare that is promised is answered with a promise, mostly with no vote to report.
     #[inline(never)]
-    fn receive_prepare<T: PacketText>(
+    fn deliver_prepare(
         &mut self,
         alloc: Global,
         out: &mut Outbox,
-        text: T,
+        place: usize,
     ) -> Result<Dropped, Fault>
+        requires place { place < length out.old.sent }
         requires working { self.old.failed ≡ false }
-        ensures answer { AnswersOnto
-            (text_effect M.next M.answers self.old (T.text text out.old.sent))
+        ensures answer { (m : Message) → slice_get out.old.sent place ≡ Some m
+            → AnswersOnto (replica_effect M.next M.answers self.old (inputs.NodeInput.Receive m))
             self.old self.new out.old.sent out.new.sent result }
-        ensures certain { (¬ IsLongText (T.text text out.old.sent)) → IsCertain
-            (text_effect M.next M.answers self.old (T.text text out.old.sent)) self.old result }
+        ensures certain { (m : Message) → slice_get out.old.sent place ≡ Some m
+            → (¬ IsLongBody m.body)
+            → IsCertain (replica_effect M.next M.answers self.old (inputs.NodeInput.Receive m))
+            self.old result }
     {
-        let Some(header) = prepare_for(&self.server, text.read(out)) else {
-            return self.receive_other(alloc, out, text);
+        let Some(header) = prepare_for(&self.server, out.text(place).unwrap()) else {
+            return self.deliver_other(alloc, out, place);
         };
         let answer = self
             .server
             .header_to(header.from, header.position, header.ballot);
         let Some(done) = self.promise_first(out, &answer) else {
-            return self.receive_other(alloc, out, text);
+            return self.deliver_other(alloc, out, place);
         };
         done?;
         Ok(Dropped::No)
@@ -134,21 +87,24 @@ impl<M: Machine, D: Device> Replica<M, D> {
 
     /// A promise counts, and at a majority the action is offered to all.
     #[inline(never)]
-    fn receive_promise<T: PacketText>(
+    fn deliver_promise(
         &mut self,
         alloc: Global,
         out: &mut Outbox,
-        text: T,
+        place: usize,
     ) -> Result<Dropped, Fault>
+        requires place { place < length out.old.sent }
         requires working { self.old.failed ≡ false }
-        ensures answer { AnswersOnto
-            (text_effect M.next M.answers self.old (T.text text out.old.sent))
+        ensures answer { (m : Message) → slice_get out.old.sent place ≡ Some m
+            → AnswersOnto (replica_effect M.next M.answers self.old (inputs.NodeInput.Receive m))
             self.old self.new out.old.sent out.new.sent result }
-        ensures certain { (¬ IsLongText (T.text text out.old.sent)) → IsCertain
-            (text_effect M.next M.answers self.old (T.text text out.old.sent)) self.old result }
+        ensures certain { (m : Message) → slice_get out.old.sent place ≡ Some m
+            → (¬ IsLongBody m.body)
+            → IsCertain (replica_effect M.next M.answers self.old (inputs.NodeInput.Receive m))
+            self.old result }
     {
-        let Some(promise) = promise_for(&self.server, text.read(out)) else {
-            return self.receive_other(alloc, out, text);
+        let Some(promise) = promise_for(&self.server, out.text(place).unwrap()) else {
+            return self.deliver_other(alloc, out, place);
         };
         match self.server.promise(promise.from, promise.position, promise.ballot, promise.last) {
             Progress::Offer(action) => self.offer(out, &promise, &action)?,
@@ -162,31 +118,34 @@ impl<M: Machine, D: Device> Replica<M, D> {
 
     /// An accept that gets a vote is answered with it, mostly the first at its position.
     #[inline(never)]
-    fn receive_accept<T: PacketText>(
+    fn deliver_accept(
         &mut self,
         alloc: Global,
         out: &mut Outbox,
-        text: T,
+        place: usize,
     ) -> Result<Dropped, Fault>
+        requires place { place < length out.old.sent }
         requires working { self.old.failed ≡ false }
-        ensures answer { AnswersOnto
-            (text_effect M.next M.answers self.old (T.text text out.old.sent))
+        ensures answer { (m : Message) → slice_get out.old.sent place ≡ Some m
+            → AnswersOnto (replica_effect M.next M.answers self.old (inputs.NodeInput.Receive m))
             self.old self.new out.old.sent out.new.sent result }
-        ensures certain { (¬ IsLongText (T.text text out.old.sent)) → IsCertain
-            (text_effect M.next M.answers self.old (T.text text out.old.sent)) self.old result }
+        ensures certain { (m : Message) → slice_get out.old.sent place ≡ Some m
+            → (¬ IsLongBody m.body)
+            → IsCertain (replica_effect M.next M.answers self.old (inputs.NodeInput.Receive m))
+            self.old result }
     {
-        let bytes = text.read(out);
-        let Some((header, action)) = accept_for(&self.server, bytes) else {
-            return self.receive_other(alloc, out, text);
+        let text = out.text(place).unwrap();
+        let Some((header, action)) = accept_for(&self.server, text) else {
+            return self.deliver_other(alloc, out, place);
         };
-        let Some(tail) = vote_tail(bytes) else {
-            return self.receive_other(alloc, out, text);
+        let Some(tail) = vote_tail(text) else {
+            return self.deliver_other(alloc, out, place);
         };
         let answer = self
             .server
             .header_to(header.from, header.position, header.ballot);
         let Some(done) = self.vote_first(out, &answer, &action, &tail) else {
-            return self.receive_other(alloc, out, text);
+            return self.deliver_other(alloc, out, place);
         };
         done?;
         Ok(Dropped::No)
@@ -194,25 +153,28 @@ impl<M: Machine, D: Device> Replica<M, D> {
 
     /// A vote counts, and at a majority the action is learned.
     #[inline(never)]
-    fn receive_accepted<T: PacketText>(
+    fn deliver_accepted(
         &mut self,
         alloc: Global,
         out: &mut Outbox,
-        text: T,
+        place: usize,
     ) -> Result<Dropped, Fault>
+        requires place { place < length out.old.sent }
         requires working { self.old.failed ≡ false }
-        ensures answer { AnswersOnto
-            (text_effect M.next M.answers self.old (T.text text out.old.sent))
+        ensures answer { (m : Message) → slice_get out.old.sent place ≡ Some m
+            → AnswersOnto (replica_effect M.next M.answers self.old (inputs.NodeInput.Receive m))
             self.old self.new out.old.sent out.new.sent result }
-        ensures certain { (¬ IsLongText (T.text text out.old.sent)) → IsCertain
-            (text_effect M.next M.answers self.old (T.text text out.old.sent)) self.old result }
+        ensures certain { (m : Message) → slice_get out.old.sent place ≡ Some m
+            → (¬ IsLongBody m.body)
+            → IsCertain (replica_effect M.next M.answers self.old (inputs.NodeInput.Receive m))
+            self.old result }
     {
-        let bytes = text.read(out);
-        let Some((header, action)) = accepted_for(&self.server, bytes) else {
-            return self.receive_other(alloc, out, text);
+        let text = out.text(place).unwrap();
+        let Some((header, action)) = accepted_for(&self.server, text) else {
+            return self.deliver_other(alloc, out, place);
         };
-        let Some(tail) = vote_tail(bytes) else {
-            return self.receive_other(alloc, out, text);
+        let Some(tail) = vote_tail(text) else {
+            return self.deliver_other(alloc, out, place);
         };
         match self
             .server
@@ -237,25 +199,28 @@ impl<M: Machine, D: Device> Replica<M, D> {
 
     /// A decision is learned, unless one is at its position.
     #[inline(never)]
-    fn receive_decided<T: PacketText>(
+    fn deliver_decided(
         &mut self,
         alloc: Global,
         out: &mut Outbox,
-        text: T,
+        place: usize,
     ) -> Result<Dropped, Fault>
+        requires place { place < length out.old.sent }
         requires working { self.old.failed ≡ false }
-        ensures answer { AnswersOnto
-            (text_effect M.next M.answers self.old (T.text text out.old.sent))
+        ensures answer { (m : Message) → slice_get out.old.sent place ≡ Some m
+            → AnswersOnto (replica_effect M.next M.answers self.old (inputs.NodeInput.Receive m))
             self.old self.new out.old.sent out.new.sent result }
-        ensures certain { (¬ IsLongText (T.text text out.old.sent)) → IsCertain
-            (text_effect M.next M.answers self.old (T.text text out.old.sent)) self.old result }
+        ensures certain { (m : Message) → slice_get out.old.sent place ≡ Some m
+            → (¬ IsLongBody m.body)
+            → IsCertain (replica_effect M.next M.answers self.old (inputs.NodeInput.Receive m))
+            self.old result }
     {
-        let bytes = text.read(out);
-        let Some(sent) = decided_for(&self.server, bytes) else {
-            return self.receive_other(alloc, out, text);
+        let text = out.text(place).unwrap();
+        let Some(sent) = decided_for(&self.server, text) else {
+            return self.deliver_other(alloc, out, place);
         };
-        let Some(tail) = decision_tail(bytes) else {
-            return self.receive_other(alloc, out, text);
+        let Some(tail) = decision_tail(text) else {
+            return self.deliver_other(alloc, out, place);
         };
         if !self.server.is_learned(sent.position) {
             self.learn_by_decision(out, sent.from, sent.position, &sent.action, Some(tail))?;
@@ -265,21 +230,25 @@ impl<M: Machine, D: Device> Replica<M, D> {
 
     /// Any packet: its plan is decided and committed.
     #[inline(never)]
-    fn receive_other<T: PacketText>(
+    fn deliver_other(
         &mut self,
         alloc: Global,
         out: &mut Outbox,
-        text: T,
+        place: usize,
     ) -> Result<Dropped, Fault>
+        requires place { place < length out.old.sent }
         requires working { self.old.failed ≡ false }
-        ensures answer { AnswersOnto
-            (text_effect M.next M.answers self.old (T.text text out.old.sent))
+        ensures answer { (m : Message) → slice_get out.old.sent place ≡ Some m
+            → AnswersOnto (replica_effect M.next M.answers self.old (inputs.NodeInput.Receive m))
             self.old self.new out.old.sent out.new.sent result }
-        ensures certain { (¬ IsLongText (T.text text out.old.sent)) → IsCertain
-            (text_effect M.next M.answers self.old (T.text text out.old.sent)) self.old result }
+        ensures certain { (m : Message) → slice_get out.old.sent place ≡ Some m
+            → (¬ IsLongBody m.body)
+            → IsCertain (replica_effect M.next M.answers self.old (inputs.NodeInput.Receive m))
+            self.old result }
     {
+        texts_are_packets();
         let mut plan = Plan::Pass(Dropped::No);
-        on_text(&self.server, alloc, text.read(out), &mut plan)?;
+        on_text(&self.server, alloc, out.text(place).unwrap(), &mut plan)?;
         self.commit(alloc, out, &plan)?;
         Ok(plan.dropped())
     }

@@ -5,8 +5,7 @@
 //! - `questions`: what it is asked about its pending items and its tasks
 //! - `opening`: a replica that is opened over a device
 //! - `turn`: a step: it decides by the rules (`rp_rules`), and commits
-//! - `packet_text`: where the text of a packet lies
-//! - `delivery`: a packet that comes: one of a frequent kind makes no plan
+//! - `delivery`: a packet that is delivered, in which a usual one makes no plan
 //! - `commit`: a plan, committed: it is written, takes effect and is sent
 //! - `range_promise`, `proposal`, `decisions`, `report`: a promise for a range, plans of a leader,
 //!   of a learner and for the audit, committed
@@ -25,7 +24,6 @@ mod infallible;
 mod laws;
 mod missing;
 mod opening;
-mod packet_text;
 mod proposal;
 mod questions;
 mod range_promise;

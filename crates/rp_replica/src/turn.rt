@@ -14,7 +14,7 @@ ghost use Rattle.rp_replica.specs.Inputs.{replica_effect, effect_if_given, input
 ghost use Rattle.rp_replica.specs.State.{server_of};
 ghost use Rattle.rp_replica.specs.Turning.{Answers, AnswersOnto, IsCertain, StopsIf};
 
-use crate::packet_text::GivenText;
+use crate::laws::texts_are_packets;
 use crate::replica::Replica;
 use crate::sent::Sent;
 use rp_base::{Fault, Position, PositionRange};
@@ -118,9 +118,6 @@ impl<M: Machine, D: Device> Replica<M, D> {
         ensures certain { (¬ IsLong input.now)
             → IsCertain (input_effect M.next M.answers self.old input.now) self.old result }
     {
-        if let Input::Receive(bytes) = *input {
-            return self.receive_text(alloc, out, GivenText { bytes });
-        }
         let mut plan = Plan::Pass(Dropped::No);
         self.decide(alloc, input, &mut plan)?;
         self.commit(alloc, out, &plan)?;

@@ -1,5 +1,5 @@
 -- The result of a plan, and when it may be committed.
-use Rattle.std.specs.Prelude.{◌≡◌, ℕ, ◌+◌, ◌<◌, ◌≤◌, Ok}
+use Rattle.std.specs.Prelude.{◌≡◌, ℕ, ◌+◌, ◌<◌, ◌≤◌, Bool, true, false, Ok}
 use Rattle.std.specs.Prelude.{None, IfSome, List, [], length}
 use Rattle.std.specs.List.{AllByRecursion}
 use Rattle.rp_base.specs.Action.{IsRight, IsCount}
@@ -124,3 +124,11 @@ abbrev pub IsPlanOf : {S : Type 0} → (S → Action → S) → (S → Action �
     → ServerState S → List ℕ → Plan → Type 0
 IsPlanOf next answers server bytes plan =
     plan_if_given next answers server (packet_given (all_of bytes)) ≡ Ok plan
+
+-- What the function of a usual kind makes of bytes: they are no text of that kind, and the plan
+-- stays; or it decides what the rules say of their packet.
+abbrev pub Decides : {S : Type 0} → (S → Action → S) → (S → Action → List Answer) → ServerState S
+    → List ℕ → Plan → Plan → Bool → Type 0
+Decides next answers server bytes before after false = after ≡ before
+Decides next answers server bytes before after true = MayCommit server after
+    × (Ok after ≡ plan_if_given next answers server (packet_given (all_of bytes)))

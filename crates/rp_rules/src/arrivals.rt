@@ -44,7 +44,7 @@ pub(crate) fn on_tick<M: Machine>(server: &Roles<M>, now: u32, plan: &mut Plan)
 
 /// A `Call` comes, with a right action.
 #[inline(always)]
-pub fn on_call<M: Machine>(server: &Roles<M>, action: Action, plan: &mut Plan)
+pub(crate) fn on_call<M: Machine>(server: &Roles<M>, action: Action, plan: &mut Plan)
     requires right { IsRight action }
     ensures plan { plan.new ≡ on_call (running_server M.next M.answers server.now) action }
     ensures may { MayCommit server.now plan.new }

@@ -5,7 +5,7 @@
 //! In reading order:
 //! - `input`: what a node may be given
 //! - `rules`: the rule of an input, by its kind
-//! - `texts`: the rule for a packet's text, and what the texts of the usual kinds ask
+//! - `texts`: the rule for a packet's text, by the packet's kind
 //! - `packets`: the rules for any packet
 //! - `acceptor`: prepares and accepts
 //! - `leader`: promises, and leading at a position
@@ -28,7 +28,6 @@ mod ranges;
 mod rules;
 mod texts;
 
-pub use arrivals::on_call;
 pub use input::Input;
 pub use rules::decide;
 pub use texts::{

@@ -1,5 +1,6 @@
-//! What a server decides of a packet's text; and what the text of each usual kind asks, if this node
-//! takes it: its fields, with which the rule for that kind is the plan of the bytes.
+//! What a server decides of a packet's text. Each usual kind has two functions: one reads the text
+//! into fields, the other calls the rule with these. It returns whether the bytes are the text of
+//! such a packet that this node takes; if they are not, it leaves the plan as it is.
 
 ghost use Rattle.std.specs.Prelude.{◌≡◌, ◌≤◌, ◌&&◌, not, nat_lt, Ok, IfErr, IfSome, OnOk};
 ghost use Rattle.rp_base.specs.Action.{IsRight};
@@ -17,12 +18,16 @@ ghost use Rattle.rp_model.specs.Learner.{on_accepted, on_decided};
 ghost use Rattle.rp_model.specs.Receiving.{is_for_node, is_node, is_no_node_above};
 ghost use Rattle.rp_model.specs.Says.{says};
 ghost use Rattle.rp_rules.specs.Inputs.{Refuses, running_server, packet_given, plan_if_given};
-ghost use Rattle.rp_rules.specs.Plans.{IsPlanOf, MayCommit, MayCount};
+ghost use Rattle.rp_rules.specs.Plans.{Decides, IsPlanOf, MayCommit, MayCount};
 
+use crate::acceptor::{on_accept, on_prepare};
+use crate::arrivals::on_call;
+use crate::leader::on_promise;
+use crate::learner::{on_accepted, on_decided};
 use crate::packets::on_packet;
 use rp_base::{Action, Fault, NodeId, Position};
 use rp_codec::{
-    Header, SentDecision, decode, usual_accept, usual_accepted, usual_call, usual_decided,
+    Header, Kind, SentDecision, decode, usual_accept, usual_accepted, usual_call, usual_decided,
     usual_prepare, usual_promise,
 };
 use rp_machine::Machine;
@@ -30,9 +35,10 @@ use rp_model::{CountedPromise, Plan};
 use rp_server::Roles;
 use std::alloc::Global;
 
-/// Handles any packet, given as its text: `BadPacket` if the bytes are no packet's, or `OutOfMemory`
-/// if a report or a promise for a range is read.
-#[inline(never)]
+/// Handles a packet, given as its text: `BadPacket` if the bytes are no packet's, or `OutOfMemory`
+/// if a report or a promise for a range is read. Each usual kind has its function, in which reading
+/// the packet and the rule for it are compiled for that kind alone.
+#[inline(always)]
 pub fn on_text<M: Machine>(
     server: &Roles<M>,
     alloc: Global,
@@ -45,13 +51,19 @@ pub fn on_text<M: Machine>(
     ensures err { IfErr result (Refuses (IsLongText bytes.now)
         (plan_if_given M.next M.answers server.now (packet_given (all_of bytes.now)))) }
 {
-    let Ok(read) = decode(alloc, bytes) else {
-        return Err(Fault::OutOfMemory);
+    let decided = match Kind::of_text(bytes) {
+        Some(Kind::Call) => on_call_text(server, bytes, plan),
+        Some(Kind::Prepare) => on_prepare_text(server, bytes, plan),
+        Some(Kind::Promise) => on_promise_text(server, bytes, plan),
+        Some(Kind::Accept) => on_accept_text(server, bytes, plan),
+        Some(Kind::Accepted) => on_accepted_text(server, bytes, plan),
+        Some(Kind::Decided) => on_decided_text(server, bytes, plan),
+        _ => false,
     };
-    match &read {
-        Ok(packet) => on_packet(server, packet, plan),
-        Err(reason) => Err(Fault::BadPacket(*reason)),
+    if decided {
+        return Ok(());
     }
+    on_other_text(server, alloc, bytes, plan)
 }
 
 /// Whether a packet between these nodes, for a position, is for this node and keeps to the
@@ -74,6 +86,29 @@ fn takes_from_owner<M: Machine>(server: &Roles<M>, header: &Header) -> bool
         (says header.now.from (Prepare header.now.position header.now.ballot) header.now.to) }
 {
     takes(server, header.from, header.to, header.position) && header.ballot.owner() == header.from
+}
+
+/// A packet comes that no function of a usual kind reads.
+#[inline(never)]
+fn on_other_text<M: Machine>(
+    server: &Roles<M>,
+    alloc: Global,
+    bytes: &[u8],
+    plan: &mut Plan,
+) -> Result<(), Fault>
+    ensures ok { OnOk result (Ok plan.new
+        ≡ plan_if_given M.next M.answers server.now (packet_given (all_of bytes.now))) }
+    ensures may { OnOk result (MayCommit server.now plan.new) }
+    ensures err { IfErr result (Refuses (IsLongText bytes.now)
+        (plan_if_given M.next M.answers server.now (packet_given (all_of bytes.now)))) }
+{
+    let Ok(read) = decode(alloc, bytes) else {
+        return Err(Fault::OutOfMemory);
+    };
+    match &read {
+        Ok(packet) => on_packet(server, packet, plan),
+        Err(reason) => Err(Fault::BadPacket(*reason)),
+    }
 }
 
 /// The action of a task's call to this node, if these bytes are the text of one.
@@ -191,4 +226,76 @@ pub fn decided_for<M: Machine>(server: &Roles<M>, bytes: &[u8]) -> Option<SentDe
     } else {
         None
     }
+}
+
+/// A task's call comes.
+#[inline(never)]
+fn on_call_text<M: Machine>(server: &Roles<M>, bytes: &[u8], plan: &mut Plan) -> bool
+    ensures { Decides M.next M.answers server.now bytes.now plan.old plan.new result }
+{
+    let Some(action) = call_for(server, bytes) else {
+        return false;
+    };
+    on_call(server, action, plan);
+    true
+}
+
+/// A prepare comes.
+#[inline(never)]
+fn on_prepare_text<M: Machine>(server: &Roles<M>, bytes: &[u8], plan: &mut Plan) -> bool
+    ensures { Decides M.next M.answers server.now bytes.now plan.old plan.new result }
+{
+    let Some(header) = prepare_for(server, bytes) else {
+        return false;
+    };
+    on_prepare(server, header.from, header.position, header.ballot, plan);
+    true
+}
+
+/// A promise comes that reports no vote.
+#[inline(never)]
+fn on_promise_text<M: Machine>(server: &Roles<M>, bytes: &[u8], plan: &mut Plan) -> bool
+    ensures { Decides M.next M.answers server.now bytes.now plan.old plan.new result }
+{
+    let Some(promise) = promise_for(server, bytes) else {
+        return false;
+    };
+    on_promise(server, promise, plan);
+    true
+}
+
+/// An accept comes, whose action is a call.
+#[inline(never)]
+fn on_accept_text<M: Machine>(server: &Roles<M>, bytes: &[u8], plan: &mut Plan) -> bool
+    ensures { Decides M.next M.answers server.now bytes.now plan.old plan.new result }
+{
+    let Some((header, action)) = accept_for(server, bytes) else {
+        return false;
+    };
+    on_accept(server, &header, &action, plan);
+    true
+}
+
+/// A vote for a call comes.
+#[inline(never)]
+fn on_accepted_text<M: Machine>(server: &Roles<M>, bytes: &[u8], plan: &mut Plan) -> bool
+    ensures { Decides M.next M.answers server.now bytes.now plan.old plan.new result }
+{
+    let Some((header, action)) = accepted_for(server, bytes) else {
+        return false;
+    };
+    on_accepted(server, &header, &action, plan);
+    true
+}
+
+/// A decided call comes.
+#[inline(never)]
+fn on_decided_text<M: Machine>(server: &Roles<M>, bytes: &[u8], plan: &mut Plan) -> bool
+    ensures { Decides M.next M.answers server.now bytes.now plan.old plan.new result }
+{
+    let Some(sent) = decided_for(server, bytes) else {
+        return false;
+    };
+    on_decided(server, sent.from, sent.position, &sent.action, plan);
+    true
 }

@@ -12,8 +12,7 @@ returns-clause-app c =
     let second = c.in_ok-arg-2.ensures.shape c.hide_self_option.ensures.local ∙ ap₂ with_rule first c.hide_self_option.ensures.rule in
     let third = c.in_ok-arg-3.ensures.shape c.count_option.ensures.local ∙ ap₂ with_rule second c.count_option.ensures.rule in
     let fourth = c.in_ok-arg-4.ensures.shape c.count_option-2.ensures.local ∙ ap₂ with_rule third c.count_option-2.ensures.rule in
-    let fifth = c.in_ok-arg-5.ensures.shape c.html_option.ensures.local ∙ ap₂ with_rule fourth c.html_option.ensures.rule in
-    IfOk-weaker c.arg-6.result _ _ (λ r added. added.shape c.calls_option.ensures.local ∙ ap₂ with_rule fifth c.calls_option.ensures.rule) c.arg-6.ensures
+    IfOk-weaker c.arg-5.result _ _ (λ r added. added.shape c.html_option.ensures.local ∙ ap₂ with_rule fourth c.html_option.ensures.rule) c.arg-5.ensures
 
 pub returns-clause-local : goal.returns-clause-local
 returns-clause-local c =
@@ -23,5 +22,4 @@ returns-clause-local c =
     let second = c.in_ok-arg-2.ensures.globals ∙ ap₂ either first c.hide_self_option.ensures.local in
     let third = c.in_ok-arg-3.ensures.globals ∙ ap₂ either second c.count_option.ensures.local in
     let fourth = c.in_ok-arg-4.ensures.globals ∙ ap₂ either third c.count_option-2.ensures.local in
-    let fifth = c.in_ok-arg-5.ensures.globals ∙ ap₂ either fourth c.html_option.ensures.local in
-    IfOk-weaker c.arg-6.result _ _ (λ r added. added.globals ∙ ap₂ either fifth c.calls_option.ensures.local) c.arg-6.ensures
+    IfOk-weaker c.arg-5.result _ _ (λ r added. added.globals ∙ ap₂ either fourth c.html_option.ensures.local) c.arg-5.ensures

@@ -8,7 +8,7 @@ use Rattle.rp_command_line.proofs.args.command.Goals as goal
 pub returns : goal.returns
 returns c =
     let top : app_of c.disable_help_subcommand.result ≡ on_top with_choice (new_app (codes "rp_console")) =
-    rw (ap app_of_fields c.disable_help_subcommand.ensures, c.subcommand_required.ensures, c.version.ensures, c.after_help.ensures, c.about.ensures, c.in_ok-bin_name.ensures.0) (ap (on_top with_choice) c.new.ensures.app) in
+    rw (ap app_of_fields c.disable_help_subcommand.ensures, c.subcommand_required.ensures, c.version.ensures, c.after_help.ensures, c.about.ensures) (ap (on_top with_choice) c.new.ensures.app) in
     let first = c.in_ok-subcommand.ensures.shape c.in_ok-script.ensures.local ∙ ap₂ with_subcommand top (ap (λ (a : App). a.top) c.in_ok-script.ensures.app) in
     let second = c.in_ok-subcommand-2.ensures.shape c.in_ok-live.ensures.local ∙ ap₂ with_subcommand first (ap (λ (a : App). a.top) c.in_ok-live.ensures.app) in
     let third = c.in_ok-subcommand-3.ensures.shape c.in_ok-chart.ensures.local ∙ ap₂ with_subcommand second (ap (λ (a : App). a.top) c.in_ok-chart.ensures.app) in

@@ -4,7 +4,7 @@ use Rattle.rp_bind.specs.declared.lines.Language.{Language}
 use Rattle.rp_explore_deck.specs.declared.request.ExploreRequest.{ExploreRequest}
 use Rattle.rp_history.specs.declared.view.ChartRequest.{ChartRequest}
 use Rattle.rp_command_line.specs.CommandLine.{bind_option, chart_option, console, explore_option, option_of, trace_of, IsChartRequest, IsLanguage, IsRequest, ReadsAs}
-use Rattle.rp_command_line.proofs.CommandLineLemmas.{no_fault, has_fault, is_chart_by, is_language_by, is_request_by, refused_by_clap, refused_for_both, choose_both_by, met_name, met_one, option_read}
+use Rattle.rp_command_line.proofs.CommandLineLemmas.{no_fault, has_fault, is_chart_by, is_language_by, is_request_by, met_name, met_one, option_read}
 use Rattle.rp_command_line.specs.declared.args.Args.TheVariants.{Script, Live}
 use Rattle.rp_command_line.proofs.args.read_args.Given as given
 use Rattle.rp_command_line.proofs.args.read_args.Goals as goal
@@ -15,9 +15,8 @@ taken g c = no_fault _ _ c.in_ok-command.ensures c.in_ok-matches.ensures.kinds
 
 pub returns-in_err-matches-clause-refused : goal.returns-in_err-matches-clause-refused
 returns-in_err-matches-clause-refused g c =
-    let words = map g.S.AsStr.text c.args.words.now in
-    let refused = refused_by_clap words c.in_err-matches.field-0.0 (has_fault _ words c.in_err-matches.field-0.0 c.in_ok-command.ensures c.in_err-matches.ensures.kinds) in
-    search (rules, refused)
+    let kinds = has_fault _ (map g.S.AsStr.text c.args.words.now) c.in_err-matches.field-0.0 c.in_ok-command.ensures c.in_err-matches.ensures.kinds in
+    search (rules, kinds)
 
 pub returns-in-Some-clause-traced : goal.returns-in-Some-clause-traced
 returns-in-Some-clause-traced g c asked =
@@ -33,8 +32,8 @@ returns-in-Some-clause-quiet g c asked =
     option_read _ _ c.in_ok-matches.matches _ c.in_ok-command.ensures c.in_ok-matches.ensures.matches (codes "script") (codes "trace") found (c.in-Some.ensures.found.0 refl) refl c.in-Some.ensures.rows in
     ap Script (c.get_flag-traced.ensures.other (text ∙ asked))
 
-pub returns-in-Some-clause-right : goal.returns-in-Some-clause-right
-returns-in-Some-clause-right g c = taken g (goal.at.returns-in-Some-clause-right g c).In_ok-matches
+pub returns-in-Some-clause-refused : goal.returns-in-Some-clause-refused
+returns-in-Some-clause-refused g c = taken g (goal.at.returns-in-Some-clause-refused g c).In_ok-matches
 
 pub unreachable-requires : goal.unreachable-requires
 unreachable-requires g c =
@@ -63,14 +62,14 @@ returns-in-Some-subcommand_matches-clause-live g c seed turns of_seed of_turns =
     (c.number_of.ensures seed (subst (λ (t : Option Text). ReadsAs 32 t seed) (sym (text (codes "seed"))) of_seed))
     (c.number_of-in-Some-subcommand_matches.ensures turns (subst (λ (t : Option Text). ReadsAs 32 t turns) (sym (text (codes "turns"))) of_turns))
 
-pub returns-in-Some-subcommand_matches-clause-right : goal.returns-in-Some-subcommand_matches-clause-right
-returns-in-Some-subcommand_matches-clause-right g c = taken g (goal.at.returns-in-Some-subcommand_matches-clause-right g c).In_ok-matches
+pub returns-in-Some-subcommand_matches-clause-refused : goal.returns-in-Some-subcommand_matches-clause-refused
+returns-in-Some-subcommand_matches-clause-refused g c = taken g (goal.at.returns-in-Some-subcommand_matches-clause-refused g c).In_ok-matches
 
-pub returns-clause-right : goal.returns-clause-right
-returns-clause-right g c = taken g (goal.at.returns-clause-right g c).In_ok-matches
+pub returns-clause-refused : goal.returns-clause-refused
+returns-clause-refused g c = taken g (goal.at.returns-clause-refused g c).In_ok-matches
 
-pub returns-in-Some-subcommand_matches-2-clause-right : goal.returns-in-Some-subcommand_matches-2-clause-right
-returns-in-Some-subcommand_matches-2-clause-right g c = taken g (goal.at.returns-in-Some-subcommand_matches-2-clause-right g c).In_ok-matches
+pub returns-in-Some-subcommand_matches-2-clause-refused : goal.returns-in-Some-subcommand_matches-2-clause-refused
+returns-in-Some-subcommand_matches-2-clause-refused g c = taken g (goal.at.returns-in-Some-subcommand_matches-2-clause-refused g c).In_ok-matches
 
 pub returns-in-Some-subcommand_matches-2-clause-chart : goal.returns-in-Some-subcommand_matches-2-clause-chart
 returns-in-Some-subcommand_matches-2-clause-chart g c request is =
@@ -99,8 +98,8 @@ returns-clause-bind g c language is =
     let same : language ≡ c.language_of.result = cc in
     subst (λ (l : Language). IsLanguage (bind_option (map g.S.AsStr.text c.args.words.now)) l) (sym same) (is_language_by _ _ text c.language_of.result c.language_of.ensures)
 
-pub returns-in-Some-subcommand_matches-3-clause-right : goal.returns-in-Some-subcommand_matches-3-clause-right
-returns-in-Some-subcommand_matches-3-clause-right g c = taken g (goal.at.returns-in-Some-subcommand_matches-3-clause-right g c).In_ok-matches
+pub returns-in-Some-subcommand_matches-3-clause-refused : goal.returns-in-Some-subcommand_matches-3-clause-refused
+returns-in-Some-subcommand_matches-3-clause-refused g c = taken g (goal.at.returns-in-Some-subcommand_matches-3-clause-refused g c).In_ok-matches
 
 pub returns-in-Some-subcommand_matches-3-clause-named : goal.returns-in-Some-subcommand_matches-3-clause-named
 returns-in-Some-subcommand_matches-3-clause-named g c =

@@ -1,7 +1,7 @@
 use Rattle.std.proofs.Common.{subst}
 use Rattle.rp_model.specs.rp_codec.specs.Decoding.{IsDecoded}
 use Rattle.rp_rules.proofs.PacketMemory.{text_no_memory, rule_no_memory}
-use Rattle.rp_rules.proofs.texts.on_text.Goals as goal
+use Rattle.rp_rules.proofs.texts.on_other_text.Goals as goal
 
 pub returns-in_default-clause-err : goal.returns-in_default-clause-err
 returns-in_default-clause-err g c = text_no_memory g.M.Machine.next g.M.Machine.answers c.args.server.now c.args.bytes.now c.in_default.ensures.memory

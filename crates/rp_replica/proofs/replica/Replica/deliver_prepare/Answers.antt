@@ -1,32 +1,34 @@
 -- A promise with no vote to report is written and sent.
-use Rattle.std.proofs.Common.{ℕ, ◌≡◌, List, None, refl, sym, subst}
-use Rattle.std.specs.Prelude.{Result, OnOk, OnErr, IfErr}
+use Rattle.std.proofs.Common.{◌≡◌, List, Some, None, refl, sym, subst}
+use Rattle.std.specs.Prelude.{slice_get, Result, OnOk, OnErr, IfErr}
 use Rattle.rp_rules.specs.rp_acceptor.specs.First.{IsFirstPromise}
 use Rattle.rp_base.specs.declared.fault.WriteFault.{WriteFault}
 use Rattle.rp_base.specs.declared.record.Rec.TheVariants.{Promised}
 use Rattle.rp_base.specs.WriteFaults.{fault_of}
-use Rattle.rp_codec.specs.Decoding.{IsLongText}
+use Rattle.rp_codec.specs.Decoding.{IsLongBody}
 use Rattle.rp_codec.specs.Message.{Message}
 use Rattle.rp_codec.specs.declared.usual_texts.Header.{Header}
+use Rattle.rp_model.specs.Effect.{NodeInput}
 use Rattle.rp_model.specs.Plans.{written_by}
 use Rattle.rp_model.specs.declared.effect.Dropped.TheVariants.{No}
 use Rattle.rp_model.specs.declared.plan.Plan.TheVariants as plans
+use Rattle.rp_outbox.proofs.Joined.{text_found_is}
 use Rattle.rp_rules.specs.Plans.{IsPlanOf, turn_of_plan}
 use Rattle.rp_replica.specs.Committing.{Commits}
-use Rattle.rp_replica.specs.Texts.{text_effect}
+use Rattle.rp_replica.specs.Inputs.{replica_effect}
 use Rattle.rp_replica.specs.State.{ReplicaState, server_of}
 use Rattle.rp_replica.specs.Turning.{IsCertain, Stops}
 use Rattle.rp_replica.proofs.Delivered.{HasPlan, promised_plan, carried_out, not_carried_out, takes_memory}
-use Rattle.rp_replica.proofs.replica.Replica.receive_prepare.Goals as goal
+use Rattle.rp_replica.proofs.replica.Replica.deliver_prepare.Goals as goal
 
 pub returns-in_default-promise_first-clause-certain : goal.returns-in_default-promise_first-clause-certain
 returns-in_default-promise_first-clause-certain g c =
     let m = g.M.Machine in
-    let text = g.T.PacketText.text in
-    let other = c.receive_other-in_default-promise_first in
+    let place = c.args.place in
+    let other = c.deliver_other-in_default-promise_first in
     let none = c.in_default-promise_first.ensures.none in
-    subst (λ (k : ReplicaState g.row.M.Denot). (¬ IsLongText (text c.args.text c.args.out.now.sent)) → IsCertain (text_effect m.next m.answers k (text c.args.text c.args.out.now.sent)) k other.result) none.0
-    (subst (λ (l : List Message). (¬ IsLongText (text c.args.text l)) → IsCertain (text_effect m.next m.answers c.promise_first.new.self (text c.args.text l)) c.promise_first.new.self other.result) none.1
+    subst (λ (k : ReplicaState g.row.M.Denot). (p : Message) → slice_get c.args.out.now.sent place ≡ Some p → (¬ IsLongBody p.body) → IsCertain (replica_effect m.next m.answers k (NodeInput.Receive p)) k other.result) none.0
+    (subst (λ (l : List Message). (p : Message) → slice_get l place ≡ Some p → (¬ IsLongBody p.body) → IsCertain (replica_effect m.next m.answers c.promise_first.new.self (NodeInput.Receive p)) c.promise_first.new.self other.result) none.1
     other.ensures.certain)
 
 pub returns-clause-answer : goal.returns-clause-answer
@@ -35,19 +37,19 @@ returns-clause-answer g c =
     let h = c.args.self.now in
     let server = c.self.inside.server in
     let sent = c.args.out.now.sent in
-    let bytes = c.read.result.now in
+    let bytes = c.unwrap.result.now in
     let header = c.in-Some.header in
     let answer = c.header_to-answer.result in
     let plan = plans.Promise answer None in
     let is_first : IsFirstPromise server.records header.position header.ballot =
     subst (λ (p : Header). IsFirstPromise server.records p.position p.ballot) c.header_to-answer.ensures
     (subst (λ (k : ReplicaState g.row.M.Denot). IsFirstPromise k.records answer.position answer.ballot) (sym c.self.view_is) c.in-Some-promise_first.ensures.first) in
-    let stated = g.T.PacketText.text c.args.text sent in
-    let has : HasPlan m.next m.answers h stated plan =
-    subst (λ (l : List ℕ). HasPlan m.next m.answers h l plan) c.read.ensures
-    (subst (λ (k : ReplicaState g.row.M.Denot). IsPlanOf m.next m.answers (server_of k) bytes plan) c.self.view_is
-    (promised_plan m.next m.answers server bytes header answer None (Promised header.position header.ballot) c.in-Some.ensures.plan (sym is_first) c.header_to-answer.ensures)) in
-    carried_out m.next m.answers h stated plan has sent c.promise_first.new.self c.promise_first.new.out.sent No c.requires.working
+    let has : HasPlan m.next m.answers h sent c.args.place bytes plan = (
+      λ message at. (text_found_is c.text.result c.unwrap.result (slice_get sent c.args.place) message c.unwrap.ensures c.text.ensures.text at, c.text.ensures.right message at),
+      subst (λ (k : ReplicaState g.row.M.Denot). IsPlanOf m.next m.answers (server_of k) bytes plan) c.self.view_is
+          (promised_plan m.next m.answers server bytes header answer None (Promised header.position header.ballot) c.in-Some.ensures.plan (sym is_first) c.header_to-answer.ensures),
+    ) in
+    carried_out m.next m.answers h sent c.args.place bytes plan has c.promise_first.new.self c.promise_first.new.out.sent No c.requires.working
     (subst (λ (done : Result (Unit {0}) WriteFault). OnOk done (Commits (turn_of_plan m.next m.answers (server_of h) plan) h c.promise_first.new.self sent c.promise_first.new.out.sent)) c.in_ok-done.was c.in-Some-promise_first.ensures.ok) refl
 
 pub returns-in_err-done-clause-answer : goal.returns-in_err-done-clause-answer
@@ -56,19 +58,19 @@ returns-in_err-done-clause-answer g c =
     let h = c.args.self.now in
     let server = c.self.inside.server in
     let sent = c.args.out.now.sent in
-    let bytes = c.read.result.now in
+    let bytes = c.unwrap.result.now in
     let header = c.in-Some.header in
     let answer = c.header_to-answer.result in
     let plan = plans.Promise answer None in
     let is_first : IsFirstPromise server.records header.position header.ballot =
     subst (λ (p : Header). IsFirstPromise server.records p.position p.ballot) c.header_to-answer.ensures
     (subst (λ (k : ReplicaState g.row.M.Denot). IsFirstPromise k.records answer.position answer.ballot) (sym c.self.view_is) c.in-Some-promise_first.ensures.first) in
-    let stated = g.T.PacketText.text c.args.text sent in
-    let has : HasPlan m.next m.answers h stated plan =
-    subst (λ (l : List ℕ). HasPlan m.next m.answers h l plan) c.read.ensures
-    (subst (λ (k : ReplicaState g.row.M.Denot). IsPlanOf m.next m.answers (server_of k) bytes plan) c.self.view_is
-    (promised_plan m.next m.answers server bytes header answer None (Promised header.position header.ballot) c.in-Some.ensures.plan (sym is_first) c.header_to-answer.ensures)) in
-    not_carried_out m.next m.answers h stated plan has sent c.promise_first.new.self c.promise_first.new.out.sent c.from_residual.result c.in_err-done.field-0.0 c.from_residual.ensures.1
+    let has : HasPlan m.next m.answers h sent c.args.place bytes plan = (
+      λ message at. (text_found_is c.text.result c.unwrap.result (slice_get sent c.args.place) message c.unwrap.ensures c.text.ensures.text at, c.text.ensures.right message at),
+      subst (λ (k : ReplicaState g.row.M.Denot). IsPlanOf m.next m.answers (server_of k) bytes plan) c.self.view_is
+          (promised_plan m.next m.answers server bytes header answer None (Promised header.position header.ballot) c.in-Some.ensures.plan (sym is_first) c.header_to-answer.ensures),
+    ) in
+    not_carried_out m.next m.answers h sent c.args.place bytes plan has c.promise_first.new.self c.promise_first.new.out.sent c.from_residual.result c.in_err-done.field-0.0 c.from_residual.ensures.1
     (subst (λ (done : Result (Unit {0}) WriteFault). IfErr done (λ fault. Stops (written_by plan) h c.promise_first.new.self (fault_of fault))) c.in_err-done.was c.in-Some-promise_first.ensures.err)
     (subst (λ (done : Result (Unit {0}) WriteFault). OnErr done (c.promise_first.new.out.sent ≡ sent)) c.in_err-done.was c.in-Some-promise_first.ensures.unsent)
 
@@ -78,18 +80,18 @@ returns-in_err-done-clause-certain g c =
     let h = c.args.self.now in
     let server = c.self.inside.server in
     let sent = c.args.out.now.sent in
-    let bytes = c.read.result.now in
+    let bytes = c.unwrap.result.now in
     let header = c.in-Some.header in
     let answer = c.header_to-answer.result in
     let plan = plans.Promise answer None in
     let is_first : IsFirstPromise server.records header.position header.ballot =
     subst (λ (p : Header). IsFirstPromise server.records p.position p.ballot) c.header_to-answer.ensures
     (subst (λ (k : ReplicaState g.row.M.Denot). IsFirstPromise k.records answer.position answer.ballot) (sym c.self.view_is) c.in-Some-promise_first.ensures.first) in
-    let stated = g.T.PacketText.text c.args.text sent in
-    let has : HasPlan m.next m.answers h stated plan =
-    subst (λ (l : List ℕ). HasPlan m.next m.answers h l plan) c.read.ensures
-    (subst (λ (k : ReplicaState g.row.M.Denot). IsPlanOf m.next m.answers (server_of k) bytes plan) c.self.view_is
-    (promised_plan m.next m.answers server bytes header answer None (Promised header.position header.ballot) c.in-Some.ensures.plan (sym is_first) c.header_to-answer.ensures)) in
-    λ short turn is free working.
-    let writes = takes_memory m.next m.answers h stated plan has (λ none. let never = none.written in absurd cc) turn is in
+    let has : HasPlan m.next m.answers h sent c.args.place bytes plan = (
+      λ message at. (text_found_is c.text.result c.unwrap.result (slice_get sent c.args.place) message c.unwrap.ensures c.text.ensures.text at, c.text.ensures.right message at),
+      subst (λ (k : ReplicaState g.row.M.Denot). IsPlanOf m.next m.answers (server_of k) bytes plan) c.self.view_is
+          (promised_plan m.next m.answers server bytes header answer None (Promised header.position header.ballot) c.in-Some.ensures.plan (sym is_first) c.header_to-answer.ensures),
+    ) in
+    λ message at short turn is free working.
+    let writes = takes_memory m.next m.answers h sent c.args.place bytes plan has (λ none. let never = none.written in absurd cc) message at turn is in
     absurd (writes free)
